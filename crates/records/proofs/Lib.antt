@@ -1,0 +1,4 @@
+pub mod Fronts
+pub mod Laws
+pub mod Chains
+pub mod Readers
