@@ -5,11 +5,11 @@ use Rattle.records.specs.Bytes.{word, long}
 use Rattle.records.specs.declared.numbers.AtomNumber.{AtomNumber}
 use Rattle.kinds.specs.declared.formulas.Parts.{Parts}
 use Rattle.kinds.specs.declared.formulas.Modal.{Modal}
-use Rattle.kinds.specs.declared.facts.LabelCount.{LabelCount}
+use Rattle.records.specs.declared.numbers.LabelCount.{LabelCount}
 use Rattle.kinds.specs.declared.facts.Labelled.{Labelled}
 use Rattle.kinds.specs.declared.facts.Ordered.{Ordered}
 use Rattle.kinds.specs.declared.facts.Arrowed.{Arrowed}
-use Rattle.kinds.specs.declared.rows.WorldCount.{WorldCount}
+use Rattle.records.specs.declared.numbers.WorldCount.{WorldCount}
 use Rattle.kinds.specs.declared.rows.AboveRow.{AboveRow}
 use Rattle.kinds.specs.declared.rows.EndsRow.{EndsRow}
 use Rattle.kinds.specs.declared.rows.AtomRow.{AtomRow}

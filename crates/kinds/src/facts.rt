@@ -6,11 +6,8 @@ use records::bytes::word_at;
 use records::kind::RecordKind;
 use records::numbers::FormulaNumber;
 use records::numbers::Label;
+use records::numbers::LabelCount;
 use records::numbers::Principal;
-
-// How many labels a sequent has.
-#[derive(Clone, Copy)]
-pub struct LabelCount(pub u16);
 
 // The number of a modality, 6 to 9 for says, controls, ratified and permitted.
 #[derive(Clone, Copy)]

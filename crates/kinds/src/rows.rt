@@ -8,10 +8,7 @@ use records::numbers::AtomNumber;
 use records::numbers::Label;
 use records::numbers::Principal;
 use records::numbers::World;
-
-// How many worlds a model has.
-#[derive(Clone, Copy)]
-pub struct WorldCount(pub u16);
+use records::numbers::WorldCount;
 
 // A set of worlds: bit w stands for world w.
 #[derive(Clone, Copy)]

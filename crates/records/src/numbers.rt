@@ -35,3 +35,11 @@ pub struct ConditionPlace(pub u16);
 // The position of a fact in its sequent, from 0.
 #[derive(Clone, Copy, PartialEq)]
 pub struct FactPosition(pub u16);
+
+// How many labels a sequent or a branch has.
+#[derive(Clone, Copy, PartialEq)]
+pub struct LabelCount(pub u16);
+
+// How many worlds a model has.
+#[derive(Clone, Copy, PartialEq)]
+pub struct WorldCount(pub u16);

@@ -1,0 +1,5 @@
+pub mod Entries
+pub mod Dossiers
+pub mod Drafts
+pub mod Laws
+pub mod Answers

@@ -1,0 +1,9 @@
+pub mod Modalities
+pub mod Models
+pub mod ModelRules
+pub mod Formulas
+pub mod Facts
+pub mod Truth
+pub mod Stored
+pub mod NodeLists
+pub mod Tables

@@ -1,0 +1,3 @@
+// What a stack does, on tiles.
+#[cfg(test)]
+mod tests;
