@@ -1,0 +1,5 @@
+use Rattle.axioms.proofs.Written.{as-published}
+use Rattle.axioms.proofs.pile.PublishedIs.the-impl.Needs as need
+
+pub written-law : need.written-law
+written-law k = as-published

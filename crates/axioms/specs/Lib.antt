@@ -1,0 +1,3 @@
+pub mod Valid
+pub mod InWords
+pub mod Unlawful

@@ -1,0 +1,3 @@
+pub mod Everys
+pub mod Clauses
+pub mod Carries

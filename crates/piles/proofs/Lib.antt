@@ -1,0 +1,4 @@
+pub mod BareLaws
+pub mod Instances
+pub mod Judging
+pub mod LaidLaws

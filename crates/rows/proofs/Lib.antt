@@ -1,0 +1,3 @@
+pub mod Bits
+pub mod Blank
+pub mod Writes

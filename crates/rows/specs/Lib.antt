@@ -1,0 +1,4 @@
+pub mod Masks
+pub mod RowsOf
+pub mod Written
+pub mod PlacesOf
