@@ -1,3 +1,4 @@
 pub mod Axioms
+pub mod WrittenSteps
 pub mod Refuted
 pub mod Written

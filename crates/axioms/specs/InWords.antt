@@ -70,7 +70,7 @@ pub record AsPublished (conditions : List Condition) : Type 0 where
   pub admits : (P : ℕ) (m : Model) → Admits conditions P m ↔ (Keeps P m × InWords P (m .frame))
   -- the conditions depend only on the frame's worlds and the principals below P
   pub local : (P : ℕ) (F G : Frame) → Agree P F G → Meets conditions P F → Meets conditions P G
-  -- each condition fails alone in some frame, at its place from the top; with one principal del-C always holds
+  -- each condition fails alone in some frame, at its place from the top; for del-C with two principals or more
   pub i-ss-alone : (P : ℕ) → SomePrincipals P → Alone conditions P 0
   pub c2p-alone : (P : ℕ) → SomePrincipals P → Alone conditions P 1
   pub del-c-alone : (P : ℕ) → SomePrincipals P → 2 ≤ P → Alone conditions P 2

@@ -1,3 +1,4 @@
 pub mod Valid
 pub mod InWords
+pub mod Steps
 pub mod Unlawful

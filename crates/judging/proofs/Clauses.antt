@@ -4,12 +4,11 @@ use mathlib.Core.Bool.{Bool, true, false, _&&_, _||_}
 use Prim.Native.Nat.{ℕ, _<_}
 use native.Mathlib.Nat.{lt-of-le-of-lt}
 use lib.Bits.{bitAnd, bitOr, and-le-l, or-lt}
-use lib.Pow.{pow-pos}
 use Rattle.logic.specs.declared.terms.Modality.{Modality}
 use Rattle.logic.specs.declared.terms.Modality.the-variants.{Says, Controls, Ratified, Permitted}
-use Rattle.logic.specs.Models.{every, any, at-ends, _⊃_}
+use Rattle.logic.specs.Models.{every, at-ends, _⊃_}
 use Rattle.rows.specs.Masks.{bit, Mask}
-use Rattle.rows.proofs.Bits.{bit-and, bit-or, bit-zero, every-same, any-same}
+use Rattle.rows.proofs.Bits.{bit-and, bit-or, every-same, any-same}
 
 split-and : (a f g : Bool) → ((a && f) ⊃ g) ≡ (a ⊃ (f ⊃ g))
 split-and true f g = refl
@@ -34,9 +33,6 @@ pub implies-same : (n : ℕ) (e f g s t : ℕ → Bool) → ((w : ℕ) → w < n
     → every n (λ y. e y ⊃ (f y ⊃ g y)) ≡ every n (λ y. e y ⊃ (s y ⊃ t y))
 implies-same n e f g s t p q =
     every-same n (λ y. e y ⊃ (f y ⊃ g y)) (λ y. e y ⊃ (s y ⊃ t y)) (λ w h. ap₂ (λ (a b : Bool). e w ⊃ (a ⊃ b)) (p w h) (q w h))
-
-pub mask-falsity : (n : ℕ) → Mask n 0 (λ _. false)
-mask-falsity n = record { small = pow-pos n; bits = λ w h. bit-zero w }
 
 pub mask-and : (n a b : ℕ) (p q : ℕ → Bool) → Mask n a p → Mask n b q → Mask n (bitAnd a b) (λ x. p x && q x)
 mask-and n a b p q k l = record {

@@ -1,7 +1,7 @@
 // The rules of a model, tested by sets of worlds.
 ghost use mathlib.Core.Path.{_≡_};
 ghost use mathlib.Core.Bool.{Bool, _&&_};
-ghost use Prim.Native.Nat.{ℕ, _^_, _<_};
+ghost use Prim.Native.Nat.{ℕ, _<_};
 ghost use Rattle.logic.specs.Models.{any};
 ghost use Rattle.logic.specs.ModelRules.{Reflexive, Transitive, Monotone, MonotonePermitted, Upward, Regular};
 ghost use Rattle.rows.specs.Masks.{Mask};
@@ -136,13 +136,20 @@ fn permits_from(rows: &Rows, principal: Principal, up: WorldSet, low: WorldSet) 
     ok
 }
 
+// The worlds below an end of an arrow of permission from z.
+fn worlds_under(rows: &Rows, principal: Principal, z: World) -> WorldSet
+    ensures { λ r. ⌜ Mask (frame-of (now (rows .entry)) .worlds) (r .0) (λ x. under (frame-of (now (rows .entry))) (principal .0) (z .0) x) ⌝ }
+{
+    let ends = rows.ends(Modality::Permitted, principal, z);
+    below(rows, ends)
+}
+
 // Whether every world below an end of an arrow of permission from z is an end of one from each world above z.
 fn permitted_at(rows: &Rows, principal: Principal, z: World) -> bool
     ensures { λ r. ⌜ r ≡ allows (frame-of (now (rows .entry))) (principal .0) (z .0) ⌝ }
 {
     let up = rows.above(z);
-    let ends = rows.ends(Modality::Permitted, principal, z);
-    let low = below(rows, ends);
+    let low = worlds_under(rows, principal, z);
     permits_from(rows, principal, up, low)
 }
 

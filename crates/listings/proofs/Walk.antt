@@ -8,12 +8,12 @@ use Rattle.std.proofs.shelf.Lists.{map-push, map-append, length-push, length-ta
 use Rattle.std.specs.Of.Vec.{vec-items}
 use Rattle.records.specs.declared.record.RawRecord.{RawRecord}
 use Rattle.records.specs.Chains.{Record, record-of, Joined, none, more, chain, ending, OneChain}
-use Rattle.listings.specs.declared.kind.Sort.{Sort}
-use Rattle.listings.specs.declared.kind.Sort.the-variants as sort
+use Rattle.readings.specs.declared.kind.Sort.{Sort}
+use Rattle.readings.specs.declared.kind.Sort.the-variants as sort
 use Rattle.listings.specs.declared.listing.Listing.{Listing}
 use Rattle.listings.specs.declared.row.Row.{Row}
 use Rattle.listings.specs.declared.tally.Tally.{Tally}
-use Rattle.listings.specs.Readings.{counted-as}
+use Rattle.readings.specs.Readings.{counted-as}
 use Rattle.listings.specs.Rows.{IsRow, Rows, span, spans}
 use Rattle.listings.specs.Tallies.{Counts, counts-of, counted, nothing, one-more, total}
 use Rattle.listings.specs.Listings.{sorts, Listed}

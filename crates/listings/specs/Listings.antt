@@ -6,12 +6,12 @@ use lib.ListN.{length}
 use Rattle.std.specs.Of.Vec.{vec-items}
 use Rattle.records.specs.declared.refusal.Refusal.the-variants.{FileTooLong}
 use Rattle.records.specs.Chains.{chain, ending}
-use Rattle.listings.specs.declared.kind.Sort.{Sort}
+use Rattle.readings.specs.declared.kind.Sort.{Sort}
 use Rattle.listings.specs.declared.row.Row.{Row}
 use Rattle.listings.specs.declared.listing.Listing.{Listing}
 use Rattle.listings.specs.declared.listing.Outcome.{Outcome}
 use Rattle.listings.specs.declared.listing.Outcome.the-variants as outcome
-use Rattle.listings.specs.Readings.{counted-as}
+use Rattle.readings.specs.Readings.{counted-as}
 use Rattle.listings.specs.Rows.{Rows}
 use Rattle.listings.specs.Tallies.{counts-of, counted, nothing}
 

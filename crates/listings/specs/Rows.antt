@@ -5,7 +5,7 @@ use Prim.Native.Nat.{ℕ, _+_}
 use lib.ListN.{length}
 use Rattle.records.specs.Chains.{Record, record-of}
 use Rattle.listings.specs.declared.row.Row.{Row}
-use Rattle.listings.specs.Readings.{ReadsAs}
+use Rattle.readings.specs.Readings.{ReadsAs}
 
 -- how many bytes a record takes: two of its length, two of its kind, and its body
 abbrev pub span : Record → ℕ

@@ -1,8 +1,8 @@
 -- How records are counted, by what each is counted as. Assumes nothing.
 use mathlib.Core.List.{List, [], _∷_}
 use Prim.Native.Nat.{ℕ, _+_}
-use Rattle.listings.specs.declared.kind.Sort.{Sort}
-use Rattle.listings.specs.declared.kind.Sort.the-variants.{Formula, Fact, Row, Unknown, WrongSize}
+use Rattle.readings.specs.declared.kind.Sort.{Sort}
+use Rattle.readings.specs.declared.kind.Sort.the-variants.{Formula, Fact, Row, Unknown, WrongSize}
 use Rattle.listings.specs.declared.tally.Tally.{Tally}
 
 -- how many there are of each sort

@@ -1,18 +1,18 @@
 -- The laws of `bit` and of `every` and `any` over its bits. Assumes nothing.
 use mathlib.Core.Path.{_≡_, refl, sym, ap, ap₂, subst, _∙_}
-use mathlib.Core.Bool.{Bool, true, false, not, _&&_, _||_, cond}
-use mathlib.Core.Logic.{_⊎_, inl, inr, ⊎-elim}
+use mathlib.Core.Bool.{Bool, true, false, not, _&&_, _||_}
+use mathlib.Core.Logic.{_⊎_, ⊎-elim}
 use Prim.Native.Nat.{ℕ, zero, suc, _+_, _-_, _*_, _/_, _%_, _^_, _<_, _≤_}
-use native.Mathlib.Nat.{le-of-suc-le-suc, not-suc-le-zero, zero-lt-suc, mod-lt, zero-div, div-one, div-eq-of-lt, div-add-mod', mul-add-mod-self-right, mod-eq-of-lt, lt-of-le-of-lt, lt-of-lt-of-le, sub-add-cancel, sub-zero, pow-suc, add-zero, zero-add, mul-one, one-mul}
+use native.Mathlib.Nat.{le-of-suc-le-suc, not-suc-le-zero, zero-lt-suc, mod-lt, zero-div, div-one, div-eq-of-lt, div-add-mod', mul-add-mod-self-right, mod-eq-of-lt, lt-of-le-of-lt, lt-of-lt-of-le, sub-zero, pow-suc, add-zero, one-mul}
 use native.Mathlib.Numerals.{add-one, one-add}
 use native.Mathlib.Omega.{arith}
 use lib.Arith.{lt-one}
-use lib.Bits.{bitAnd, bitOr, bitXor, and-shr, or-shr, xor-shr, and-mod, or-mod, xor-mod, and-le-l, and-le-r, and-lt, and-mask, xor-add-and}
+use lib.Bits.{bitAnd, bitOr, bitXor, and-shr, or-shr, xor-shr, and-mod, or-mod, xor-mod, and-le-l, and-le-r, and-mask, xor-add-and}
 use lib.Dec.{eqb}
-use lib.Pow.{pow-pos, pow-mono, pow-lt, pow-add, shr-shr, field, shr-lt, ones-split, high, ones-lt, le-ones}
+use lib.Pow.{pow-pos, pow-mono, pow-lt, pow-add, shr-shr, field, shr-lt, ones-split, high, ones-lt}
 use Rattle.std.specs.Orderings.{Decides}
-use Rattle.std.proofs.shelf.Tests.{eqb-true, eq-eqb, ne-eqb, cases-lt, cases-order, lt-ltb}
-use Rattle.std.proofs.shelf.Ways.{same-from-decides, decides-eqb, decides-below-and, decides-below-or, decides-not, decides-like}
+use Rattle.std.proofs.shelf.Tests.{eqb-true, eq-eqb, ne-eqb, cases-lt, cases-order}
+use Rattle.std.proofs.shelf.Ways.{same-from-decides, decides-below-and}
 use Rattle.rows.specs.Masks.{bit, Mask}
 use Rattle.logic.specs.Models.{every, any, _⊃_}
 
@@ -138,9 +138,6 @@ any-same (suc n) p q e = ap₂ _||_ (e n (omega arith)) (any-same n p q (λ w h.
 pub decides-every : (n : ℕ) (p : ℕ → Bool) → Decides (every n p) ((w : ℕ) → w < n → p w ≡ true)
 decides-every n p = decides-below-and p (λ w. p w ≡ true) (λ k. every k p) (λ k. (λ e. e, λ e. e)) refl (λ _. refl) n
 
-pub decides-any : (n : ℕ) (p : ℕ → Bool) → Decides (any n p) ((w : ℕ) × (w < n) × (p w ≡ true))
-decides-any n p = decides-below-or p (λ w. p w ≡ true) (λ k. any k p) (λ k. (λ e. e, λ e. e)) refl (λ _. refl) n
-
 implied : (x y : Bool) → x ≡ (x && y) → (x ⊃ y) ≡ true
 implied true y e = sym e
 implied false y e = refl
@@ -182,9 +179,6 @@ meets-bits n a b ha =
     ∙ any-same n (λ y. bit (bitAnd a b) y) (λ y. bit a y && bit b y) (λ w h. bit-and a b w)
 
 -- ---- a mask that is made world by world
-
-pub mask-none : (p : ℕ → Bool) → Mask 0 0 p
-mask-none p = record { small = zero-lt-suc 0; bits = λ w h. absurd (not-suc-le-zero h) }
 
 -- one world more, that is or is not in the set
 pub more-true : (n m : ℕ) (p : ℕ → Bool) → Mask n m p → p n ≡ true → Mask (n + 1) (2 ^ n + m) p

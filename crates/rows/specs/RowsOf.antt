@@ -1,6 +1,4 @@
 -- The model that rows stand for. Assumes nothing.
-use mathlib.Core.Path.{_≡_}
-use mathlib.Core.Bool.{false}
 use mathlib.Core.List.{List, []}
 use Prim.Native.Nat.{ℕ}
 use lib.ListN.{getD, set}
@@ -20,10 +18,11 @@ modality-place Controls = 1
 modality-place Ratified = 2
 modality-place Permitted = 3
 
--- the row and the arrows with nothing in them, which stand where a list ends
+-- the row with nothing in it, which stands where a list of rows ends
 abbrev pub no-row : Row
 no-row = record { ends = [] }
 
+-- and the arrows with nothing in them
 abbrev pub no-arrows : Arrows
 no-arrows = record { of = [] }
 

@@ -15,13 +15,13 @@ pub const MAX_ATOMS: u16 = 64;
 
 // The ends of the arrows from each world.
 #[derive(Clone, Copy)]
-pub struct Row {
+struct Row {
     ends: [WorldSet; 32],
 }
 
 // The rows of each principal.
 #[derive(Clone, Copy)]
-pub struct Arrows {
+struct Arrows {
     of: [Row; 8],
 }
 

@@ -1,8 +1,8 @@
 ghost use mathlib.Core.Path.{_≡_};
 ghost use Prim.Native.Nat.{_+_, _<_};
 ghost use Rattle.listings.specs.Tallies.{counts-of, nothing, one-more};
-use crate::kind::Sort;
 use crate::tally::Tally;
+use readings::kind::Sort;
 use std::fmt;
 
 impl Tally {

@@ -4,7 +4,7 @@ ghost use mathlib.Core.Logic.{_⊎_};
 ghost use Prim.Native.Nat.{_<_};
 ghost use lib.ListN.{set, length, getD};
 ghost use Rattle.rows.specs.Masks.{no-set};
-ghost use Rattle.rows.specs.RowsOf.{no-row, modality-place, ends-at, with-end, with-row-end};
+ghost use Rattle.rows.specs.RowsOf.{no-row, ends-at, with-end, with-row-end};
 ghost use Rattle.rows.specs.Written.{AboveSet, EndsSet, AtomSet, Empty};
 ghost use Rattle.std.specs.Options.{Cases as BySome};
 use crate::masks::MAX_WORLDS;

@@ -1,5 +1,4 @@
-use mathlib.Core.Bool.{Bool, _&&_}
-use Prim.Native.Nat.{ℕ}
+use mathlib.Core.Bool.{_&&_}
 use Rattle.logic.specs.Models.{any}
 use Rattle.rows.specs.Masks.{bit, Mask}
 use Rattle.rows.specs.RowsOf.{frame-of}

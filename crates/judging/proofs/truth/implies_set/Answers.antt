@@ -1,7 +1,7 @@
 use mathlib.Core.Path.{_≡_, subst, sym, _∙_}
 use Prim.Native.Nat.{ℕ, _<_, _^_}
 use native.Mathlib.Nat.{lt-of-le-of-lt}
-use lib.Bits.{bitAnd, and-le-l}
+use lib.Bits.{and-le-l}
 use Rattle.logic.specs.Models.{every, _⊃_}
 use Rattle.rows.specs.Masks.{bit}
 use Rattle.rows.specs.RowsOf.{frame-of}

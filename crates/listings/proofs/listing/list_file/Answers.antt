@@ -7,7 +7,7 @@ use Rattle.std.proofs.Told.{chosen}
 use Rattle.std.specs.Of.Vec.{vec-items}
 use Rattle.records.specs.Chains.{record-of, chain}
 use Rattle.records.specs.Files.{bytes-of}
-use Rattle.listings.specs.Readings.{counted-as}
+use Rattle.readings.specs.Readings.{counted-as}
 use Rattle.listings.specs.Tallies.{one-more, counts-of}
 use Rattle.listings.proofs.Walk.{Sofar, ends-within, few-records, sofar-more, listed}
 use Rattle.listings.proofs.listing.list_file.Needs as need

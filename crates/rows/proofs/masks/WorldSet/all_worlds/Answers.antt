@@ -1,7 +1,6 @@
-use mathlib.Core.Path.{_≡_, sym, subst}
+use mathlib.Core.Path.{sym, subst}
 use mathlib.Core.Bool.{true}
 use Prim.Native.Nat.{ℕ}
-use native.Mathlib.Omega.{arith}
 use Rattle.rows.specs.Masks.{Mask}
 use Rattle.rows.proofs.Bits.{mask-ones}
 use Rattle.rows.proofs.masks.WorldSet.all_worlds.Needs as need
