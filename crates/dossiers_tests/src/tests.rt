@@ -2,6 +2,8 @@
 use dossiers::read::read_dossier;
 use logic::table::FormulaTable;
 use records::file::File;
+use std::alloc::AllocError;
+use std::alloc::Global;
 use std::test::*;
 
 // How a dossier reads: the refusal's two numbers, or 0 and 0 with the formulas and facts that there are then.
@@ -173,16 +175,35 @@ fn arrows_in_range() -> Result<(), Fail> {
     )
 }
 
-// 256 formulas are as many as a table has room for; out of range comes before too many.
-#[test]
-fn formulas_at_the_limit(rt: LibcRuntime) -> Result<(), Fail> {
-    let mut bytes = Vec::new(rt.alloc());
-    for _ in 0..256u16 {
+// The records of so many formulas, all of them falsity.
+fn falsities(heap: Global, count: u16) -> Result<Vec<u8>, AllocError> {
+    let mut bytes = Vec::new(heap);
+    for _ in 0..count {
         bytes.push(2)?;
         bytes.push(0)?;
         bytes.push(2)?;
         bytes.push(0)?;
     }
+    Ok(bytes)
+}
+
+// 256 formulas are as many as a table has room for.
+#[test]
+fn formulas_at_the_limit(rt: LibcRuntime) -> Result<(), Fail> {
+    let mut bytes = falsities(rt.alloc(), 256)?;
+    bytes.push(4)?;
+    bytes.push(0)?;
+    bytes.push(10)?;
+    bytes.push(0)?;
+    bytes.push(1)?;
+    bytes.push(0)?;
+    check_eq(outcome_of(bytes.as_slice(), 1), taken(256, 0))
+}
+
+// One more is too many; out of range comes before too many.
+#[test]
+fn one_formula_too_many(rt: LibcRuntime) -> Result<(), Fail> {
+    let mut bytes = falsities(rt.alloc(), 256)?;
     check_eq(outcome_of(bytes.as_slice(), 1), refused(13, 256))?;
     bytes.push(6)?;
     bytes.push(0)?;

@@ -1,0 +1,11 @@
+pub mod Trails
+pub mod Shown
+pub mod Turns
+pub mod Rewording
+pub mod Natural
+pub mod Decided
+pub mod Listings
+pub mod Told
+pub mod Soundness
+pub mod Consistency
+pub mod Verdict

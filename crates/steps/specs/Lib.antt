@@ -1,0 +1,5 @@
+pub mod Waits
+pub mod Branches
+pub mod Memory
+pub mod Derivations
+pub mod Verdicts
