@@ -1,2 +1,4 @@
-// The blocks of the program's input.
+//! The blocks of the program's input.
+#![tactic(auto)]
+
 pub mod block;

@@ -1,2 +1,4 @@
-// All the records of a file.
+//! All the records of a file.
+#![tactic(auto)]
+
 pub mod chain;

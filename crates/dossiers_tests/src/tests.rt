@@ -16,11 +16,10 @@ struct Outcome {
 
 // Reads the bytes as a dossier over a table.
 fn outcome_over(table: &FormulaTable, bytes: &[u8], principals: u16) -> Outcome {
-    let handed = File::new(bytes);
-    if let Err(refusal) = handed.taken {
+    if let Err(refusal) = File::check(bytes) {
         return refused(refusal.number(), refusal.second());
     }
-    match read_dossier(handed.file, table, principals) {
+    match read_dossier(File::new(bytes), table, principals) {
         Err(refusal) => refused(refusal.number(), refusal.second()),
         Ok(dossier) => Outcome {
             number: 0,
@@ -250,7 +249,8 @@ fn facts_at_the_limit(rt: HostRuntime) -> Result<(), Fail> {
 #[test]
 fn formulas_of_earlier_dossiers(rt: HostRuntime) -> Result<(), Fail> {
     let first: &[u8] = &[4, 0, 1, 0, 5, 0, 4, 0, 10, 0, 1, 0];
-    let table = match read_dossier(File::new(first).file, &FormulaTable::new(), 1) {
+    assert!(rt; first.len() <= 32768);
+    let table = match read_dossier(File::new(first), &FormulaTable::new(), 1) {
         Ok(dossier) => dossier.table,
         Err(_) => return Err(Fail::new("the first dossier")),
     };

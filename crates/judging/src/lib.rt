@@ -1,4 +1,6 @@
-// What is judged of a model by sets of worlds: the rules that every model keeps, and truth.
+//! What is judged of a model by sets of worlds: the rules that every model keeps, and truth.
+#![tactic(auto)]
+
 pub mod rules;
 mod sets;
 pub mod truth;

@@ -1,4 +1,6 @@
-// Small models, worked out by hand.
+//! Small models, worked out by hand.
+#![tactic(auto)]
+
 #[cfg(test)]
 mod tests {
     use judging::rules::*;

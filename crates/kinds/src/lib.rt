@@ -1,4 +1,6 @@
-// What the records of dossiers and models hold, a type for each kind.
+//! What the records of dossiers and models hold, a type for each kind.
+#![tactic(auto)]
+
 pub mod facts;
 pub mod formulas;
 pub mod rows;

@@ -1,4 +1,6 @@
-// Lists the records of a file, or of standard input, and says how it ended.
+//! Lists the records of a file, or of standard input, and says how it ended.
+#![tactic(auto)]
+
 use anyhow::anyhow;
 use listings::listing::list;
 use records::file::MAX_FILE;

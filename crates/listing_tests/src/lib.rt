@@ -1,4 +1,6 @@
-// Listings of small files, worked out by hand.
+//! Listings of small files, worked out by hand.
+#![tactic(auto)]
+
 #[cfg(test)]
 mod tests {
     use listings::listing::list;

@@ -1,4 +1,6 @@
-// Listings of the records of a file.
+//! Listings of the records of a file.
+#![tactic(auto)]
+
 pub mod listing;
 pub mod row;
 pub mod tally;

@@ -36,10 +36,9 @@ pub enum Outcome<'a> {
 pub fn list<'a>(heap: Global, bytes: &'a [u8]) -> Result<Outcome<'a>, AllocError>
     ensures { IfOk result (λ o. ListedBytes bytes.now o) }
 {
-    let handed = File::new(bytes);
-    match handed.taken {
+    match File::check(bytes) {
         Err(refusal) => Ok(Outcome::Refused(refusal)),
-        Ok(()) => match list_file(heap, handed.file) {
+        Ok(()) => match list_file(heap, File::new(bytes)) {
             Err(error) => Err(error),
             Ok(listing) => Ok(Outcome::Listed(listing)),
         },

@@ -1,4 +1,6 @@
-// Formulas, facts and models: what every promise is stated by.
+//! Formulas, facts and models: what every promise is stated by.
+#![tactic(auto)]
+
 pub mod fact;
 pub mod table;
 pub mod terms;

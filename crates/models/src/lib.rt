@@ -1,4 +1,6 @@
-// Countermodels: where formulas hold, and whether a model is one that a pile admits and in which a sequent fails.
+//! Countermodels: where formulas hold, and whether a model is one that a pile admits and in which a sequent fails.
+#![tactic(auto)]
+
 pub mod examine;
 mod falsify;
 pub mod judge;

@@ -1,4 +1,6 @@
-// What piles answer on worked examples, and a layer to lay over another of the same kind.
+//! What piles answer on worked examples, and a layer to lay over another of the same kind.
+#![tactic(auto)]
+
 #[cfg(test)]
 mod judging;
 pub mod quiet;

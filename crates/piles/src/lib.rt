@@ -1,4 +1,6 @@
-// What a pack of conditions and step kinds is, and how packs are piled up.
+//! What a pack of conditions and step kinds is, and how packs are piled up.
+#![tactic(auto)]
+
 pub mod bare;
 pub mod laid;
 pub mod layer;

@@ -1,4 +1,6 @@
-// Lines of answers, written into a print buffer.
+//! Lines of answers, written into a print buffer.
+#![tactic(auto)]
+
 mod digits;
 pub mod line;
 #[cfg(test)]

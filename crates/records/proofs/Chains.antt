@@ -1,10 +1,10 @@
 -- The chain of a file, read record by record. Assumes nothing.
-use Rattle.std.proofs.Common.{◌≡◌, ℕ, zero, suc, ◌+◌, ◌-◌, ◌*◌, ◌≤◌, List, [], ◌∷◌, ◌++◌, map, length, Some, None, Ok, Err, Option, Result, sym, refl, ap, ◌∙◌, subst, ⊎_elim, append_assoc, append-nil, arith}
+use Rattle.std.proofs.Common.{◌≡◌, ℕ, zero, suc, ◌+◌, ◌-◌, ◌*◌, ◌≤◌, List, [], ◌∷◌, ◌++◌, map, length, Some, None, Option, Result, sym, refl, ap, ◌∙◌, subst, append_assoc, append-nil, arith}
 use lib.ListN.{length-map}
 use Rattle.std.proofs.lemmas.List.{map_push, length_push}
 use Rattle.records.specs.declared.record.RawRecord.{RawRecord}
 use Rattle.records.specs.declared.refusal.Refusal.{Refusal}
-use Rattle.records.specs.Chains.{Record, Front, whole, cut, front, Chain, put, stopped, chain_by, chain, record_of, broken_at, ending, Next}
+use Rattle.records.specs.Chains.{Record, whole, cut, front, put, stopped, chain_by, chain, record_of, broken_at, ending, Next}
 use Rattle.records.proofs.Fronts.{front_parts}
 use Rattle.records.proofs.Laws.{go_on}
 

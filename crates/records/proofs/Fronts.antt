@@ -1,8 +1,8 @@
 -- When the front of some bytes is a whole record. Assumes nothing.
-use Rattle.std.proofs.Common.{◌≡◌, ℕ, ◌+◌, ◌-◌, ◌≤◌, List, length, take, drop, sym, refl, ap, ◌∙◌, ⊎_elim, arith, length-drop}
+use Rattle.std.proofs.Common.{◌≡◌, ℕ, ◌+◌, ◌-◌, ◌≤◌, List, length, take, drop, sym, ap, ◌∙◌, ⊎_elim, arith, length-drop}
 use Rattle.std.proofs.lemmas.Bool.{cond-false, cond-true, le-ltb, lt-ltb, cases_lt}
 use Rattle.records.specs.Bytes.{word}
-use Rattle.records.specs.Chains.{Record, Front, whole, cut, front}
+use Rattle.records.specs.Chains.{Record, whole, cut, front}
 
 module _ (bs : List ℕ) (some : 2 ≤ length bs) (long : 2 ≤ word bs 0) (fits : 2 + word bs 0 ≤ length bs) where
   pub front_whole : front bs ≡ whole (record { kind = word bs 2; body = take (word bs 0 - 2) (drop 4 bs) }) (drop (2 + word bs 0) bs)

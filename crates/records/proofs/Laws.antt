@@ -1,9 +1,9 @@
 -- Every list of bytes is a chain of records in exactly one way. Assumes nothing.
-use Rattle.std.proofs.Common.{◌≡◌, ℕ, zero, suc, ◌+◌, ◌-◌, ◌*◌, ◌<◌, ◌≤◌, ◌⊎◌, List, [], ◌∷◌, ◌++◌, length, take, drop, sym, refl, ap, ◌∙◌, subst, inl, inr, ⊎_elim, append_assoc, append-nil, arith, length-append, take-append-drop}
+use Rattle.std.proofs.Common.{◌≡◌, ℕ, zero, suc, ◌+◌, ◌-◌, ◌*◌, ◌<◌, ◌≤◌, ◌⊎◌, List, [], ◌∷◌, ◌++◌, length, take, drop, sym, refl, ap, ◌∙◌, subst, inl, inr, ⊎_elim, append_assoc, arith, length-append, take-append-drop}
 use Rattle.std.proofs.lemmas.List.{take_at, drop_at, length-take-le, nil_from_length}
 use Rattle.std.proofs.lemmas.Bool.{cond-false, cond-true, le-ltb, lt-ltb, cases_lt}
 use Rattle.records.specs.Bytes.{word}
-use Rattle.records.specs.Chains.{Record, Front, whole, cut, front, Chain, put, stopped, chain_by, chain, Joined, none, more, Broken, IsChain, OneChain}
+use Rattle.records.specs.Chains.{Record, Front, whole, cut, front, Chain, put, stopped, chain_by, Joined, none, more, Broken, IsChain, OneChain}
 use Rattle.records.proofs.Fronts.{front_whole, front_is, front_parts, Parts}
 
 -- a record that stands at the front is found there

@@ -1,6 +1,6 @@
 -- Reading record by record: one record, the end, and the law. Assumes nothing.
 use Rattle.std.proofs.Common.{◌≡◌, ℕ, ◌+◌, ◌⊎◌, List, [], ◌∷◌, ◌++◌, length, Ok, Err, Result, sym, refl, ap, ◌∙◌, subst, inl, inr, ⊎_elim, append-nil, add-zero, zero-add, arith}
-use Rattle.records.specs.Chains.{Record, whole, cut, front, Chain, put, stopped, chain, IsChain, OneChain}
+use Rattle.records.specs.Chains.{Record, whole, cut, front, chain}
 use Rattle.records.specs.Readers.{Reader, at_end, followed, read_on, read_bytes, Reaches, here, on, ReadToEnd, RefusedAt, ReadsBy}
 use Rattle.records.specs.declared.refusal.Refusal.{Refusal}
 use Rattle.records.proofs.Fronts.{front_parts}

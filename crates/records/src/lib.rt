@@ -1,4 +1,6 @@
-// Files as chains of records: the frame that every record has, the kinds of records, and the refusals.
+//! Files as chains of records: the frame that every record has, the kinds of records, and the refusals.
+#![tactic(auto)]
+
 pub mod bytes;
 pub mod cursor;
 pub mod file;

@@ -21,15 +21,14 @@ struct Outcome {
 
 // Outcome the bytes as a file.
 fn read_file(heap: Global, bytes: &[u8]) -> Result<Outcome, AllocError> {
-    let handed = File::new(bytes);
-    if let Err(refusal) = handed.taken {
+    if let Err(refusal) = File::check(bytes) {
         return Ok(Outcome {
             records: 0,
             number: refusal.number(),
             second: refusal.second(),
         });
     }
-    let chain = read_chain(heap, handed.file)?;
+    let chain = read_chain(heap, File::new(bytes))?;
     let records = chain.records.len();
     match chain.ending {
         None => Ok(Outcome {

@@ -1,4 +1,6 @@
-// The steps of a derivation: how a record is read as one, and what each does to a branch.
+//! The steps of a derivation: how a record is read as one, and what each does to a branch.
+#![tactic(auto)]
+
 pub mod apply;
 mod connectives;
 pub mod contents;

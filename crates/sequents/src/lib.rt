@@ -1,4 +1,6 @@
-// Sequents as a ledger keeps them: a label count, and at most 16 facts by position.
+//! Sequents as a ledger keeps them: a label count, and at most 16 facts by position.
+#![tactic(auto)]
+
 pub mod list;
 mod rows;
 pub mod sequent;

@@ -1,4 +1,6 @@
-// Model files against what the rules say of them, worked out by hand.
+//! Model files against what the rules say of them, worked out by hand.
+#![tactic(auto)]
+
 use records::file::File;
 use records::numbers::LabelCount;
 use sketches::read::read_model;
@@ -12,11 +14,10 @@ pub struct Outcome {
 
 // Reads the bytes as a model file.
 pub fn outcome_of(bytes: &[u8], labels: u16, principals: u16) -> Outcome {
-    let handed = File::new(bytes);
-    if let Err(refusal) = handed.taken {
+    if let Err(refusal) = File::check(bytes) {
         return refused(refusal.number(), refusal.second());
     }
-    match read_model(handed.file, LabelCount(labels), principals) {
+    match read_model(File::new(bytes), LabelCount(labels), principals) {
         Err(refusal) => refused(refusal.number(), refusal.second()),
         Ok(model) => taken(model.rows.worlds()),
     }
@@ -352,7 +353,8 @@ mod tests {
             4, 0, 20, 0, 2, 0, 8, 0, 21, 0, 0, 0, 3, 0, 0, 0, 12, 0, 22, 0, 8, 0, 1, 0, 1, 0, 2, 0,
             0, 0, 8, 0, 23, 0, 5, 0, 1, 0, 0, 0, 6, 0, 24, 0, 0, 0, 1, 0,
         ];
-        let Ok(model) = read_model(File::new(&bytes).file, LabelCount(1), 2) else {
+        let file = File::new(&bytes);
+        let Ok(model) = read_model(file, LabelCount(1), 2) else {
             return Err(Fail::new("a model"));
         };
         assert_eq!(rt; model.principals, 2);

@@ -1,3 +1,5 @@
-// What a stack does, on tiles.
+//! What a stack does, on tiles.
+#![tactic(auto)]
+
 #[cfg(test)]
 mod tests;

@@ -1,4 +1,6 @@
-// The walk over a derivation's records, on two lent stacks, and what a taken derivation shows.
+//! The walk over a derivation's records, on two lent stacks, and what a taken derivation shows.
+#![tactic(auto)]
+
 pub mod examine;
 mod moves;
 pub mod theorems;

@@ -1,4 +1,6 @@
-// A layer from outside: one principal is believed. It is laid on the published pile.
+//! A layer from outside: one principal is believed. It is laid on the published pile.
+#![tactic(auto)]
+
 pub mod believed;
 #[cfg(test)]
 mod tests;

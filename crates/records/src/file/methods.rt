@@ -1,26 +1,26 @@
 ghost use Rattle.std.specs.Prelude.{◌≡◌, ◌≤◌, length};
 ghost use Rattle.records.specs.Files.{bytes_of, Limited};
 
-use crate::file::{File, HandedIn, MAX_FILE};
+use crate::file::{File, MAX_FILE};
 use crate::refusal::Refusal;
 
 impl<'a> File<'a> {
-    // The bytes as a file: refused where there are more than 32,768.
-    pub fn new(bytes: &'a [u8]) -> HandedIn<'a>
+    // Whether the bytes can be a file: refused where there are more than 32,768.
+    pub fn check(bytes: &[u8]) -> Result<(), Refusal>
         ensures { Limited bytes.now result }
     {
         if bytes.len() > MAX_FILE {
-            return HandedIn {
-                file: File {
-                    bytes: &bytes[0..0],
-                },
-                taken: Err(Refusal::FileTooLong),
-            };
+            return Err(Refusal::FileTooLong);
         }
-        HandedIn {
-            file: File { bytes },
-            taken: Ok(()),
-        }
+        Ok(())
+    }
+
+    // The bytes as a file, once `check` has taken them.
+    pub fn new(bytes: &'a [u8]) -> File<'a>
+        requires { length bytes.now ≤ 32768 }
+        ensures { bytes_of result ≡ bytes.now }
+    {
+        File { bytes }
     }
 
     // The bytes of the file.
