@@ -17,7 +17,7 @@ reading-smaller c =
 pub reading-preserved : goal.reading-preserved
 reading-preserved c =
     let step = next_at c.reading.cursor.rest.now c.reading.cursor.number c.next.new.self.rest.now c.next.new.self.number (ap Ok c.in-Some.is) c.in-Ok.ensures in
-    let pushed : vec_items c.push.new.self ≡ vec_items c.reading.records ++ c.in-Some.raw ∷ [] = chosen _ _ _ _ c.push.ensures.items c.if-is-err.ensures.negation in (
+    let pushed : vec_items c.push.new.self ≡ vec_items c.reading.records ++ c.in-Some.raw ∷ [] = chosen _ _ _ _ c.push.ensures.items c.if-is_err.ensures.negation in (
       subst (λ l. Read (bytes_of c.args.file) l c.next.new.self.rest.now) (sym pushed)
           (read_more _ (vec_items c.reading.records) c.reading.cursor.rest.now c.in-Some.raw c.next.new.self.rest.now c.reading.invariant.0 step.0),
       omega (arith, ap length pushed, length_push (vec_items c.reading.records) c.in-Some.raw, step.1, c.reading.invariant.1),

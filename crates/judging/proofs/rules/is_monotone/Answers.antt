@@ -8,7 +8,7 @@ use Rattle.judging.proofs.rules.is_monotone.Goals as goal
 pub loop-x-preserved : goal.loop-x-preserved
 loop-x-preserved c =
     every_more c.loop-x.x (keeps (frame_of c.args.rows.now) c.args.modality c.args.principal.0)
-    c.loop-x.ok c.monotone-at-ok.result c.loop-x.invariant c.monotone-at-ok.ensures
+    c.loop-x.ok c.monotone_at-ok.result c.loop-x.invariant c.monotone_at-ok.ensures
 
 pub returns : goal.returns
 returns c =

@@ -8,7 +8,7 @@ use Rattle.judging.proofs.rules.is_monotone_permitted.Goals as goal
 pub loop-z-preserved : goal.loop-z-preserved
 loop-z-preserved c =
     every_more c.loop-z.z (allows (frame_of c.args.rows.now) c.args.principal.0)
-    c.loop-z.ok c.permitted-at-ok.result c.loop-z.invariant c.permitted-at-ok.ensures
+    c.loop-z.ok c.permitted_at-ok.result c.loop-z.invariant c.permitted_at-ok.ensures
 
 pub returns : goal.returns
 returns c =

@@ -9,7 +9,7 @@ pub loop-x-preserved : goal.loop-x-preserved
 loop-x-preserved c =
     let F = frame_of c.args.rows.now in
     let l : c.loop-x.x < F.worlds = omega arith in
-    every_more c.loop-x.x (ordered F) c.loop-x.ok c.order-at-ok.result c.loop-x.invariant (c.order-at-ok.ensures l)
+    every_more c.loop-x.x (ordered F) c.loop-x.ok c.order_at-ok.result c.loop-x.invariant (c.order_at-ok.ensures l)
 
 pub returns : goal.returns
 returns c =

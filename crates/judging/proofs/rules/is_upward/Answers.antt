@@ -8,4 +8,4 @@ returns c =
     let r = c.args.rows.now in
     let F = frame_of r in
     let q = (model_of r).row c.args.atom.0 in
-    tells_at c.row-is-closed.result (closed F q q) c.row-is-closed.ensures (tells_upward F q)
+    tells_at c.row_is_closed.result (closed F q q) c.row_is_closed.ensures (tells_upward F q)

@@ -8,7 +8,7 @@ use Rattle.judging.proofs.rules.keeps_rules.Goals as goal
 pub loop-principal-preserved : goal.loop-principal-preserved
 loop-principal-preserved c =
     tells_more c.loop-principal.principal (PrincipalKeeps (frame_of c.args.rows.now))
-    c.loop-principal.ok c.arrows-are-monotone-ok.result c.loop-principal.invariant c.arrows-are-monotone-ok.ensures
+    c.loop-principal.ok c.arrows_are_monotone-ok.result c.loop-principal.invariant c.arrows_are_monotone-ok.ensures
 
 pub returns : goal.returns
 returns c =

@@ -12,7 +12,7 @@ loop-y-preserved c q mq =
     let e = F.arrow c.args.modality c.args.principal.0 in
     let y = c.loop-y.y in
     every_more y (λ y. bit c.args.up.0 y ⊃ closed F (e y) q) c.loop-y.ok c.implies-ok.result (c.loop-y.invariant q mq)
-    (c.implies-ok.ensures ∙ ap₂ ◌⊃◌ c.has.ensures (c.closed-into.ensures (e y) q c.ends-from.ensures mq))
+    (c.implies-ok.ensures ∙ ap₂ ◌⊃◌ c.has.ensures (c.closed_into.ensures (e y) q c.ends-from.ensures mq))
 
 pub returns : goal.returns
 returns c p q mp mq =

@@ -12,5 +12,5 @@ loop-x-preserved c =
     let e = F.arrow k c.args.principal.0 in
     let part = c.args.part.0 in
     c.grown-out.ensures (λ x. at_ends k F.worlds (e x) (bit part)) c.loop-x.invariant
-    (c.holds-at-ends.ensures F.worlds c.ends-ends.ensures.small
+    (c.holds_at_ends.ensures F.worlds c.ends-ends.ensures.small
     ∙ at_ends_same k F.worlds (bit c.ends-ends.result.0) (e c.loop-x.x) (bit part) (bit part) c.ends-ends.ensures.bits (λ w h. refl))

@@ -14,4 +14,4 @@ pub returns-in-Ok : goal.returns-in-Ok
 returns-in-Ok g c =
     let read = c.in-Ok.ensures in
     examined_given (g.K.Pack.conditions c.args.pile.now) c.args.principals (sequent_of (nodes_of c.args.table.now) c.args.sequent.now) (bytes_of c.args.file)
-    read.law c.in-Ok.model read.answer c.judge-model.result c.judge-model.ensures
+    read.law c.in-Ok.model read.answer c.judge_model.result c.judge_model.ensures

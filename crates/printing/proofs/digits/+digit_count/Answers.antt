@@ -10,4 +10,4 @@ pub returns-else-n-lt10 : goal.returns-else-n-lt10
 returns-else-n-lt10 t c =
     let more = more_digits c.args.n (omega arith) (omega arith) in
     let few = length-decimal-le 5 c.args.n (omega arith) (omega arith) (omega arith) in
-    record { value = omega (arith, more, c.digit-count.ensures.value); bound = omega (arith, more, few, c.digit-count.ensures.value) }
+    record { value = omega (arith, more, c.digit_count.ensures.value); bound = omega (arith, more, few, c.digit_count.ensures.value) }

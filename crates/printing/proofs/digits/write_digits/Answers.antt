@@ -11,7 +11,7 @@ pub loop-i-preserved : goal.loop-i-preserved
 loop-i-preserved c = (
   simp length-set (omega arith),
   omega arith,
-  half_step c.args.n c.loop-i.left _ c.loop-i.i _ _ c.loop-i.part (omega arith) (omega arith) (omega arith) c.last-digit.ensures (omega arith) c.loop-i.invariant.2,
+  half_step c.args.n c.loop-i.left _ c.loop-i.i _ _ c.loop-i.part (omega arith) (omega arith) (omega arith) c.last_digit.ensures (omega arith) c.loop-i.invariant.2,
 )
 
 pub returns : goal.returns

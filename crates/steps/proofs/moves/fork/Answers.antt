@@ -13,7 +13,7 @@ returns-then-not-push c =
     let p = c.args.p in
     let push = c.if-not-push.ensures in
     record {
-      shows = two_full (room s) (room w) c.args.at (items s) c.args.labels (items w) p c.if-not-has-room.ensures (added_of p.facts) refl (items s ++ laid (added_of p.facts)) refl (labels_after c.args.labels p.opens) refl c.requires c.args.q c.if-not-has-room-2.ensures push.answer;
+      shows = two_full (room s) (room w) c.args.at (items s) c.args.labels (items w) p c.if-not-has_room.ensures (added_of p.facts) refl (items s ++ laid (added_of p.facts)) refl (labels_after c.args.labels p.opens) refl c.requires c.args.q c.if-not-has_room-2.ensures push.answer;
       trail = same_refl s;
       waiting = push.same;
     }
@@ -21,12 +21,12 @@ returns-then-not-push c =
 pub lay-requires : goal.lay-requires
 lay-requires c =
     let s = c.args.trail.now in
-    fits_laid (room s) _ c.args.labels c.args.p c.if-not-has-room.ensures c.of-2.result c.of-2.ensures
+    fits_laid (room s) _ c.args.labels c.args.p c.if-not-has_room.ensures c.of-2.result c.of-2.ensures
 
-pub count-after-requires-2 : goal.count-after-requires-2
-count-after-requires-2 c =
+pub count_after-requires-2 : goal.count_after-requires-2
+count_after-requires-2 c =
     let s = c.args.trail.now in
-    fits_label (room s) _ c.args.labels c.args.p c.if-not-has-room.ensures
+    fits_label (room s) _ c.args.labels c.args.p c.if-not-has_room.ensures
 
 pub returns : goal.returns
 returns c =
@@ -34,7 +34,7 @@ returns c =
     let w = c.args.waiting.now in
     let push = c.if-not-push.ensures in
     record {
-      shows = two_shows (room s) (room w) c.args.at (items s) c.args.labels (items w) c.args.p c.if-not-has-room.ensures c.of-2.result c.of-2.ensures (items c.lay.new.trail) c.lay.ensures.items c.count-after-2.result c.count-after-2.ensures c.requires c.args.q c.if-not-has-room-2.ensures _ c.len.ensures.answer c.of.ensures c.count-after.ensures push.answer (items c.push.new.self) push.items;
+      shows = two_shows (room s) (room w) c.args.at (items s) c.args.labels (items w) c.args.p c.if-not-has_room.ensures c.of-2.result c.of-2.ensures (items c.lay.new.trail) c.lay.ensures.items c.count_after-2.result c.count_after-2.ensures c.requires c.args.q c.if-not-has_room-2.ensures _ c.len.ensures.answer c.of.ensures c.count_after.ensures push.answer (items c.push.new.self) push.items;
       trail = c.lay.ensures.same;
       waiting = push.same;
     }

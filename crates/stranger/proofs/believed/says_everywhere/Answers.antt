@@ -7,9 +7,9 @@ use Rattle.stranger.proofs.believed.says_everywhere.Goals as goal
 pub loop-x-preserved : goal.loop-x-preserved
 loop-x-preserved c =
     let h : c.loop-x.x < (frame_of c.args.rows.now).worlds = omega arith in
-    below_more _ _ c.loop-x.invariant (T_true _ (sym (c.says-at.ensures h) ∙ c.if-not-says-at.false))
+    below_more _ _ c.loop-x.invariant (T_true _ (sym (c.says_at.ensures h) ∙ c.if-not-says_at.false))
 
-pub returns-then-not-says-at : goal.returns-then-not-says-at
-returns-then-not-says-at c =
+pub returns-then-not-says_at : goal.returns-then-not-says_at
+returns-then-not-says_at c =
     let h : c.loop-x.x < (frame_of c.args.rows.now).worlds = omega arith in
-    (λ e. absurd (false≢true e), λ f. sym c.if-not-says-at.true ∙ c.says-at.ensures h ∙ true_T _ (f c.loop-x.x h))
+    (λ e. absurd (false≢true e), λ f. sym c.if-not-says_at.true ∙ c.says_at.ensures h ∙ true_T _ (f c.loop-x.x h))

@@ -12,6 +12,6 @@ pub returns : goal.returns
 returns c = (
   record_of c.in-Some.raw,
   c.in-Some.ensures.front,
-  ap (λ k. sized_block k c.in-Some.raw.body.now) (sym c.in-Some-from-number.ensures) ∙ cond-true _ _ _ (sym c.if-not-takes.ensures),
+  ap (λ k. sized_block k c.in-Some.raw.body.now) (sym c.in-Some-from_number.ensures) ∙ cond-true _ _ _ (sym c.if-not-takes.ensures),
   refl,
 )

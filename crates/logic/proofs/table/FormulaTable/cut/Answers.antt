@@ -3,7 +3,7 @@ use Rattle.logic.specs.NodeLists.{listed}
 use Rattle.logic.proofs.Falling.{all_fall_cut}
 use Rattle.logic.proofs.table.FormulaTable.cut.Goals as goal
 
-pub invariant-of-self : goal.invariant-of-self
-invariant-of-self c =
+pub invariant_of-self : goal.invariant_of-self
+invariant_of-self c =
     let t = c.args.self.now in
     (omega arith, (omega arith, (all_fall_cut (listed t.list) _ _ c.cut.ensures.shrunk t.falling, tt)))

@@ -8,8 +8,8 @@ use Rattle.rows.proofs.masks.WorldSet.with_world.Goals as goal
 below : (w x : ℕ) → x < 32 → eqb w x ≡ (eqb w x && ltb w 32)
 below w x h = grind (arith, nat_tests)
 
-pub returns-then-world-lt-MAX-WORLDS : goal.returns-then-world-lt-MAX-WORLDS
-returns-then-world-lt-MAX-WORLDS c w =
+pub returns-then-world-lt-MAX_WORLDS : goal.returns-then-world-lt-MAX_WORLDS
+returns-then-world-lt-MAX_WORLDS c w =
     let m = c.args.self.0 in
     let x = c.args.world.0 in
-    ap (λ (k : ℕ). bit (bit_or m k) w) c.single.ensures ∙ bit_more m x w ∙ ap (λ (b : Bool). bit m w || b) (below w x c.if-world-lt-MAX-WORLDS.true)
+    ap (λ (k : ℕ). bit (bit_or m k) w) c.single.ensures ∙ bit_more m x w ∙ ap (λ (b : Bool). bit m w || b) (below w x c.if-world-lt-MAX_WORLDS.true)

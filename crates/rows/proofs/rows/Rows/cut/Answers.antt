@@ -7,5 +7,5 @@ pub returns : goal.returns
 returns c =
     let n = c.args.self.now.worlds in
     let e : min n 32 ≡ n = omega arith in
-    mask_cut n c.args.set.0 c.all-worlds.result.0
-    (subst (λ (k : ℕ). Mask k c.all-worlds.result.0 (λ _. true)) e c.all-worlds.ensures)
+    mask_cut n c.args.set.0 c.all_worlds.result.0
+    (subst (λ (k : ℕ). Mask k c.all_worlds.result.0 (λ _. true)) e c.all_worlds.ensures)

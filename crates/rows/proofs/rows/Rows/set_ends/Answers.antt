@@ -13,16 +13,16 @@ returns c =
     let x = c.args.world.0 in
     let m = c.args.worlds in
     let old = c.args.self.now.arrows in
-    let new = c.put-arrow.new.arrows in
-    let p = c.place-of.ensures in
-    let list : new ≡ with_end old (modality_place k) A x m = subst (λ (n : ℕ). new ≡ with_end old n A x m) p c.put-arrow.ensures.list in record {
+    let new = c.put_arrow.new.arrows in
+    let p = c.place_of.ensures in
+    let list : new ≡ with_end old (modality_place k) A x m = subst (λ (n : ℕ). new ≡ with_end old n A x m) p c.put_arrow.ensures.list in record {
       arrows = list;
       worlds = refl;
       above = refl;
       atoms = refl;
       here = λ h l y.
           ap (λ (s : WorldSet). bit s.0 y)
-          (subst (λ (n : ℕ). ends_at new n A x ≡ m) p (c.put-arrow.ensures.here (omega (arith, place_small k)) h l));
+          (subst (λ (n : ℕ). ends_at new n A x ≡ m) p (c.put_arrow.ensures.here (omega (arith, place_small k)) h l));
       elsewhere = λ l B z other y.
           ap (λ (s : WorldSet). bit s.0 y)
           (ap (λ (v : List Arrows). ends_at v (modality_place l) B z) list

@@ -3,8 +3,8 @@ use Rattle.stack.proofs.Blanks.{blanked_from}
 use Rattle.stack.proofs.Counts.{latest_in_use, but_latest}
 use Rattle.stack.proofs.stack.Stack.pop.Goals as goal
 
-pub invariant-of-self : goal.invariant-of-self
-invariant-of-self g c =
+pub invariant_of-self : goal.invariant_of-self
+invariant_of-self g c =
     let s = c.args.self.now in
     let w = s.within in
     let f = s.few in

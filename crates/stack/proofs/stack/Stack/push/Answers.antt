@@ -4,18 +4,18 @@ use Rattle.stack.proofs.Blanks.{blanked_past}
 use Rattle.stack.proofs.Counts.{fits}
 use Rattle.stack.proofs.stack.Stack.push.Goals as goal
 
-pub invariant-of-self : goal.invariant-of-self
-invariant-of-self g c =
+pub invariant_of-self : goal.invariant_of-self
+invariant_of-self g c =
     let s = c.args.self.now in
-    let f = fits s c.if-not-has-room.ensures in
+    let f = fits s c.if-not-has_room.ensures in
     (simp length-set (omega arith), (omega arith, (blanked_past s.blank s.len c.args.x s.places.now s.free, tt)))
 
 pub returns : goal.returns
 returns g c =
     let s = c.args.self.now in
-    let f = fits s c.if-not-has-room.ensures in
+    let f = fits s c.if-not-has_room.ensures in
     record {
-      answer = c.if-not-has-room.ensures;
+      answer = c.if-not-has_room.ensures;
       items = take_more_set s.places.now s.len c.args.x (omega arith);
       same = search (rules, length-set);
     }
