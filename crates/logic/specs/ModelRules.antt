@@ -1,5 +1,5 @@
 -- The rules that every model keeps. Assumes nothing.
-use Rattle.std.specs.Prelude.{◌≡◌, ℕ, ◌<◌, Bool, true, false, T}
+use Rattle.std.specs.Prelude.{ℕ, ◌<◌, Bool, true, false, T}
 use Rattle.logic.specs.declared.terms.Modality.{Modality}
 use Rattle.logic.specs.declared.terms.Modality.TheVariants.{Says, Controls, Ratified, Permitted}
 use Rattle.logic.specs.Models.{Frame, Model}

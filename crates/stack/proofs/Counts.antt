@@ -1,5 +1,5 @@
 -- How many items a stack holds, what it has room for, and what it leaves. Assumes nothing.
-use Rattle.std.proofs.Common.{◌≡◌, ℕ, ◌-◌, ◌<◌, min, Bool, true, false, cond, ltb, List, [], ◌∷◌, ◌++◌, length, get_or, take, set, replicate, Some, sym, refl, ap, ◌∙◌, arith, length-take, Bor, rules}
+use Rattle.std.proofs.Common.{◌≡◌, ℕ, ◌-◌, ◌<◌, min, Bool, true, cond, ltb, List, [], ◌∷◌, ◌++◌, length, get_or, take, set, replicate, Some, sym, refl, ap, ◌∙◌, arith, length-take, MutBor, rules}
 use borrow.Author.Tests.{true-ltb}
 use Rattle.std.proofs.lemmas.Option.{slice_get-get_or}
 use Rattle.std.proofs.lemmas.List.{get_or-take, take-set, take-take}
@@ -55,7 +55,7 @@ pub same_room : {X : Type 0} {s t : Stack X} → Same s t → room t ≡ room s
 same_room e = rw (e.limit, e.places)
 
 -- the room of a new stack: the limit, or the places where they are fewer
-pub made_room : {X : Type 0} {p : Bor (List X)} {n : ℕ} {b : X} {s : Stack X} → Made p n b s → room s ≡ min n (length p.now)
+pub made_room : {X : Type 0} {p : MutBor (List X)} {n : ℕ} {b : X} {s : Stack X} → Made p n b s → room s ≡ min n (length p.now)
 made_room e = rw (e.limit, e.places)
 
 -- a stack with no item leaves every place blank

@@ -20,7 +20,7 @@ impl<'a, T: Blank> Stack<'a, T> {
     // The empty stack over `places`, all of which become blank; it has room for `limit` items at most.
     pub fn over(places: &'a mut [T], limit: usize) -> Stack<'a, T>
         ensures items { items result ≡ [] }
-        ensures made { Made places.entry limit empty result }
+        ensures made { Made places.entry limit T.empty result }
     {
         let blank = T::blank();
         clear(places, blank);

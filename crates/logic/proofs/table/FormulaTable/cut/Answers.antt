@@ -6,4 +6,4 @@ use Rattle.logic.proofs.table.FormulaTable.cut.Goals as goal
 pub invariant_of-self : goal.invariant_of-self
 invariant_of-self c =
     let t = c.args.self.now in
-    (omega arith, (omega arith, (all_fall_cut (listed t.list) _ _ c.cut.ensures.shrunk t.falling, tt)))
+    record { whole = omega arith; room = omega arith; falling = all_fall_cut (listed t.list) _ _ c.cut.ensures.shrunk t.falling }

@@ -12,7 +12,7 @@ invariant_of-self c =
     let f = sym c.if-not-parts_below.ensures in
     let a = taken_falls (listed t.list) c.args.node c.len-at.result n f t.falling in
     let room : t.list.len < 256 = omega (arith, length-take t.list.len t.list.nodes) in
-    (omega arith, (omega arith, (rw c.push.ensures.grown a, tt)))
+    record { whole = omega arith; room = omega arith; falling = rw c.push.ensures.grown a }
 
 pub returns : goal.returns
 returns c =

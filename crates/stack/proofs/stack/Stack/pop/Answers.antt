@@ -8,7 +8,7 @@ invariant_of-self g c =
     let s = c.args.self.now in
     let w = s.within in
     let f = s.few in
-    (simp length-set (omega arith), (omega arith, (search (rules, blanked_from), tt)))
+    record { within = simp length-set (omega arith); few = omega arith; free = search (rules, blanked_from) }
 
 pub returns : goal.returns
 returns g c =

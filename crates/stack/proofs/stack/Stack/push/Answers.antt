@@ -8,7 +8,7 @@ pub invariant_of-self : goal.invariant_of-self
 invariant_of-self g c =
     let s = c.args.self.now in
     let f = fits s c.if-not-has_room.ensures in
-    (simp length-set (omega arith), (omega arith, (blanked_past s.blank s.len c.args.x s.places.now s.free, tt)))
+    record { within = simp length-set (omega arith); few = omega arith; free = blanked_past s.blank s.len c.args.x s.places.now s.free }
 
 pub returns : goal.returns
 returns g c =
