@@ -1,5 +1,5 @@
 -- The model that rows stand for. Assumes nothing.
-use Rattle.std.specs.Prelude.{ℕ, List, [], get_or, set, slice_index_or, slice_set}
+use Rattle.std.specs.Prelude.{ℕ, List, [], get_or, slice_index_or, slice_set}
 use Rattle.logic.specs.declared.terms.Modality.{Modality}
 use Rattle.logic.specs.declared.terms.Modality.TheVariants.{Says, Controls, Ratified, Permitted}
 use Rattle.logic.specs.Models.{Frame, Model}
