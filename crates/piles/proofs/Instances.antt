@@ -1,12 +1,11 @@
 -- What is true of every way in which operands are taken apart. Assumes nothing.
-use Rattle.std.proofs.Common.{◌≡◌, ℕ, ◌<◌, Bool, true, false, cond, ◌||◌, T, eqb, ◌⊎◌, Some, None, Option, sym, refl, ap, subst, ap₂, inl, inr, arith, eqb→eq}
+use Rattle.std.proofs.Common.{◌≡◌, ℕ, ◌<◌, Bool, true, false, cond, T, eqb, Some, None, Option, sym, refl, ap, subst, ap₂, inl, inr, arith, eqb→eq}
 use Rattle.std.proofs.lemmas.Bool.{eq-eqb, ne_eqb}
 use Rattle.records.specs.declared.numbers.Label.{Label}
 use Rattle.records.specs.declared.numbers.World.{World}
 use Rattle.records.specs.declared.numbers.Principal.{Principal}
 use Rattle.logic.specs.declared.terms.Modality.{Modality}
 use Rattle.logic.specs.declared.terms.Modality.TheVariants.{Says, Controls, Ratified, Permitted}
-use Rattle.logic.specs.declared.terms.Link.{Link}
 use Rattle.logic.specs.declared.terms.Link.TheVariants.{Order, Arrow}
 use Rattle.logic.specs.declared.terms.FactView.{FactView}
 use Rattle.logic.specs.declared.terms.FactView.TheVariants.{Left, Right, Linked}
@@ -14,11 +13,10 @@ use Rattle.logic.specs.Models.{Frame}
 use Rattle.logic.specs.Facts.{Standing, linked}
 use Rattle.piles.specs.declared.terms.Named.{Named}
 use Rattle.piles.specs.declared.terms.Named.TheVariants.{Nothing, Single, Pair}
-use Rattle.piles.specs.declared.terms.Operands.{Operands}
 use Rattle.piles.specs.declared.terms.Reading.{Reading}
 use Rattle.piles.specs.declared.terms.Reading.TheVariants.{NoInstance}
-use Rattle.piles.specs.Asked.{FactFits, NamedFit, LabelFits, PrincipalFits, is_formula, has_formula}
-use Rattle.piles.specs.Readings.{FactHolds, NamedHold, FactHas, NamedHas, Usable, extend}
+use Rattle.piles.specs.Asked.{FactFits, NamedFit, LabelFits, PrincipalFits, is_formula}
+use Rattle.piles.specs.Readings.{FactHolds, NamedHold, FactHas, NamedHas, extend}
 use Rattle.piles.specs.Instances.{of_none, of_one, of_two, of_label, of_principal, of_arrow, of_same, same_modality, new_label}
 
 -- something is true of each fact named

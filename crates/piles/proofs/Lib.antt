@@ -1,3 +1,2 @@
 pub mod Instances
 pub mod Judging
-pub mod LaidLaws

@@ -1,8 +1,8 @@
 -- The bare pack keeps the laws. Assumes nothing.
-use Rattle.std.specs.Prelude.{◌≡◌, ℕ, [], Some, None, Option, ◌≢◌, refl}
+use Rattle.std.specs.Prelude.{◌≡◌, ℕ, [], Some, None, ◌≢◌, refl}
 use Rattle.std.proofs.Common.{arith}
 use Rattle.piles.specs.declared.terms.Layout.{Layout}
-use Rattle.piles.specs.declared.terms.Reading.TheVariants.{Unknown, NoInstance}
+use Rattle.piles.specs.declared.terms.Reading.TheVariants.{Unknown}
 use Rattle.piles.specs.Packs.{Laws}
 use Rattle.piles.specs.declared.bare.Bare.{Bare}
 

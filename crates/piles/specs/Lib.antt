@@ -4,3 +4,4 @@ pub mod Packs
 pub mod Layers
 pub mod Instances
 pub mod BareLaws
+pub mod LaidLaws

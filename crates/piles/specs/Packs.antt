@@ -1,5 +1,5 @@
 -- What a pack means, and the laws of every pack. Assumes nothing.
-use Rattle.std.specs.Prelude.{◌≡◌, ℕ, zero, suc, ◌<◌, ◌≤◌, min, true, T, List, [], ◌∷◌, Some, None, Option, ◌≢◌}
+use Rattle.std.specs.Prelude.{◌≡◌, ℕ, zero, suc, ◌<◌, min, true, T, List, [], ◌∷◌, Some, None, Option, ◌≢◌}
 use Rattle.records.specs.declared.numbers.ConditionPlace.{ConditionPlace}
 use Rattle.logic.specs.Models.{Frame, Model}
 use Rattle.logic.specs.ModelRules.{Regular, Keeps}

@@ -1,5 +1,5 @@
 -- What an answer of a pack says: which premise holds in a frame, and which labels and principals it uses. Assumes nothing.
-use Rattle.std.specs.Prelude.{◌≡◌, ℕ, ◌<◌, Bool, cond, T, ◌⊎◌, Some, None, Option, ◌==◌}
+use Rattle.std.specs.Prelude.{◌≡◌, ℕ, ◌<◌, cond, T, ◌⊎◌, Some, None, Option, ◌==◌}
 use Rattle.records.specs.declared.numbers.Label.{Label}
 use Rattle.records.specs.declared.numbers.World.{World}
 use Rattle.logic.specs.declared.terms.Link.{Link}

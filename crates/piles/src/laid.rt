@@ -1,6 +1,8 @@
 // A layer on a pack: its condition and its kind come first, all else is passed down.
 ghost use Rattle.std.specs.Prelude.{◌≡◌, ◌+◌, min};
 ghost use Rattle.piles.specs.Layers.{laid_conditions, laid_layouts, laid_readings};
+ghost use Rattle.piles.specs.LaidLaws.{laid_laws};
+ghost use Rattle.piles.specs.declared.laid.Laid.{Laid};
 
 use crate::layer::Layer;
 use crate::pack::Pack;
@@ -27,6 +29,8 @@ impl<L: Layer, B: Pack> Pack for Laid<L, B> {
     ghost layouts = { λ s. laid_layouts L.Layer.number L.Layer.layout (B.Pack.layouts s.below) };
 
     ghost readings = { λ s. laid_readings L.Layer.number (L.Layer.reading s.layer) (B.Pack.readings s.below) };
+
+    ghost lawful = { laid_laws (λ (s : Laid L B). s.layer) (λ (s : Laid L B). s.below) L.Layer.number L.Layer.layout L.Layer.own B.Pack.lawful };
 
     fn body(&self, kind: u16) -> Option<Layout> {
         if kind == self.layer.own_kind() {

@@ -1,7 +1,6 @@
 -- A layer that keeps its laws, on a pack that keeps its own, is a pack that does. Assumes nothing.
-use Rattle.std.proofs.Common.{◌≡◌, ℕ, ◌<◌, ◌≤◌, Bool, true, false, cond, T, eqb, List, Some, None, Option, sym, refl, ◌∙◌, subst, arith}
+use Rattle.std.proofs.Common.{◌≡◌, ℕ, Bool, true, false, cond, T, eqb, List, Some, None, Option, sym, ◌∙◌, subst, arith}
 use Rattle.std.proofs.lemmas.Bool.{ne_eqb, cond-false}
-use Rattle.logic.specs.Models.{Frame}
 use Rattle.piles.specs.declared.terms.Layout.{Layout}
 use Rattle.piles.specs.declared.terms.Operands.{Operands}
 use Rattle.piles.specs.declared.terms.Reading.{Reading}
