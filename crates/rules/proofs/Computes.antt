@@ -1,15 +1,13 @@
 -- What is computed of a step is what the rules say. Assumes nothing.
-use Rattle.std.proofs.Common.{◌≡◌, ℕ, Bool, true, false, cond, not, ◌&&◌, T, eqb, ◌↔◌, Some, None, Option, sym, refl, ap, ◌∙◌, subst, ap₂}
+use Rattle.std.proofs.Common.{◌≡◌, ℕ, Bool, true, false, cond, not, ◌&&◌, T, eqb, Some, None, Option, sym, refl, ap, ◌∙◌, subst, ap₂}
 use Rattle.std.proofs.lemmas.Bool.{eq-eqb}
 use Rattle.records.specs.declared.numbers.Label.{Label}
 use Rattle.logic.specs.declared.terms.Modality.{Modality}
 use Rattle.logic.specs.declared.terms.Modality.TheVariants.{Permitted}
 use Rattle.logic.specs.declared.terms.Link.{Link}
 use Rattle.logic.specs.declared.terms.Link.TheVariants.{Order, Arrow}
-use Rattle.logic.specs.declared.terms.FactView.{FactView}
-use Rattle.logic.specs.declared.terms.FactView.TheVariants.{Left, Right, Linked}
-use Rattle.logic.specs.declared.terms.Node.{Node}
-use Rattle.logic.specs.declared.terms.Node.TheVariants.{Atom, Falsity, And, Or, Implies, Modal}
+use Rattle.logic.specs.declared.terms.FactView.TheVariants.{Left, Linked}
+use Rattle.logic.specs.declared.terms.Node.TheVariants.{Atom}
 use Rattle.logic.specs.Modalities.{modality_number}
 use Rattle.logic.specs.ModelRules.{universal}
 use Rattle.logic.proofs.Bools.{T_and}
@@ -17,20 +15,19 @@ use Rattle.piles.specs.declared.terms.Reading.{Reading}
 use Rattle.piles.specs.declared.terms.Reading.TheVariants.{Unknown, NoInstance, Goes as PackGoes, Splits as PackSplits}
 use Rattle.piles.specs.declared.terms.Named.{Named}
 use Rattle.rules.specs.declared.contents.OrderArrowOrder.{OrderArrowOrder}
-use Rattle.rules.specs.declared.outcome.Few.TheVariants.{One, Two, Three}
+use Rattle.rules.specs.declared.outcome.Few.TheVariants.{One, Two}
 use Rattle.rules.specs.declared.outcome.Outcome.{Outcome}
-use Rattle.rules.specs.declared.outcome.Outcome.TheVariants.{Closes, Goes, Forks}
+use Rattle.rules.specs.declared.outcome.Outcome.TheVariants.{Goes}
 use Rattle.rules.specs.declared.outcome.ArrowParts.{ArrowParts}
-use Rattle.rules.specs.declared.outcome.Boxed.{Boxed}
 use Rattle.rules.specs.declared.step.PackStep.{PackStep}
 use Rattle.rules.specs.declared.step.Step.{Step}
 use Rattle.rules.specs.declared.step.Step.TheVariants.{AtomsClose, FalsityCloses, AndLeft, AndRight, OrLeft, OrRight, ImpliesLeft, ImpliesRight, ModalLeft, ModalRight, PermittedLeft, PermittedRight, Reflexive, Transitive, Monotone, OfPack}
-use Rattle.rules.specs.Outcomes.{adds, opens_with, pack_adds}
+use Rattle.rules.specs.Outcomes.{adds, opens_with}
 use Rattle.rules.specs.PackSteps.{named_at, operands_of}
 use Rattle.rules.specs.Scenes.{Scene}
 use Rattle.rules.specs.Rules.{new, Rule, atoms_close, falsity_closes, and_left, and_right, or_left, or_right, implies_left, implies_right, modal_left, modal_right, permitted_left, permitted_right, reflexive, transitive, monotone, monotone_permitted, pack_goes, pack_forks}
 use Rattle.rules.specs.Applying.{given, only_if, same_label, left_of, right_of, order_of, arrow_of, atom_of, falsity_of, and_of, or_of, implies_of, universal_of, permitted_of, end_of, along, against, shifted, of_reading, applied, ComputesRules}
-use Rattle.rules.proofs.Inversions.{never, only_some, label_same, atom_same, permitted_only, arrow_link, left_is, right_is, order_is, arrow_is, atom_is, falsity_is, and_is, or_is, implies_is, universal_is, permitted_is, end_is}
+use Rattle.rules.proofs.Inversions.{only_some, label_same, atom_same, permitted_only, arrow_link, left_is, right_is, order_is, arrow_is, atom_is, falsity_is, and_is, or_is, implies_is, universal_is, permitted_is, end_is}
 
 module _ {F : Type 0} (E : Scene F) (step : Step) where
   -- the rules have what is computed

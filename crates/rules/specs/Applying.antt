@@ -3,14 +3,12 @@ use Rattle.std.specs.Prelude.{◌≡◌, ℕ, Bool, cond, not, ◌&&◌, ◌↔�
 use Rattle.records.specs.declared.numbers.AtomNumber.{AtomNumber}
 use Rattle.records.specs.declared.numbers.FactPosition.{FactPosition}
 use Rattle.records.specs.declared.numbers.Label.{Label}
-use Rattle.logic.specs.declared.terms.Modality.{Modality}
 use Rattle.logic.specs.declared.terms.Link.{Link}
 use Rattle.logic.specs.declared.terms.Link.TheVariants.{Order, Arrow}
 use Rattle.logic.specs.declared.terms.FactView.{FactView}
 use Rattle.logic.specs.declared.terms.FactView.TheVariants.{Left, Right, Linked}
 use Rattle.logic.specs.declared.terms.Node.{Node}
 use Rattle.logic.specs.declared.terms.Node.TheVariants.{Atom, Falsity, And, Or, Implies, Modal}
-use Rattle.logic.specs.Models.{Formula}
 use Rattle.logic.specs.ModelRules.{universal}
 use Rattle.piles.specs.declared.terms.Reading.{Reading}
 use Rattle.piles.specs.declared.terms.Reading.TheVariants.{Unknown, NoInstance, Goes as PackGoes, Splits as PackSplits}

@@ -13,7 +13,6 @@ use Rattle.piles.specs.declared.terms.Arity.TheVariants.{Zero as NoPosition, One
 use Rattle.piles.specs.declared.terms.Layout.{Layout}
 use Rattle.rules.specs.declared.step.Positions.{Positions}
 use Rattle.rules.specs.declared.step.Positions.TheVariants.{Zero, One, Two}
-use Rattle.rules.specs.declared.step.PackStep.{PackStep}
 use Rattle.rules.specs.declared.step.Step.{Step}
 use Rattle.rules.specs.declared.step.Step.TheVariants.{AtomsClose, FalsityCloses, AndLeft, AndRight, OrLeft, OrRight, ImpliesLeft, ImpliesRight, ModalLeft, ModalRight, PermittedLeft, PermittedRight, Reflexive, Transitive, Monotone, OfPack}
 use Rattle.rules.specs.Contents.{position_at, one_position, one_label, closing_at, left_order_at, left_arrow_at, right_arrow_at, two_orders_at, order_arrow_order_at}

@@ -1,6 +1,5 @@
 -- What premises add. Assumes nothing.
 use Rattle.std.specs.Prelude.{ℕ, Bool, true, false, ◌||◌, List, [], ◌∷◌, ◌==◌}
-use Rattle.records.specs.declared.numbers.Label.{Label}
 use Rattle.logic.specs.declared.terms.Link.{Link}
 use Rattle.logic.specs.declared.terms.Link.TheVariants.{Order, Arrow}
 use Rattle.logic.specs.declared.terms.FactView.{FactView}

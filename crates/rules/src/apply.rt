@@ -26,7 +26,7 @@ pub fn apply_step<K: Pack>(
     labels: u16,
     step: Step,
 ) -> Option<Outcome<FormulaNumber>>
-    ensures { result ≡ applied (scene_of (nodes_of table.now) (items trail.now) labels (readings pile.now) principals) step }
+    ensures { result ≡ applied (scene_of (nodes_of table.now) (items trail.now) labels (K.readings pile.now) principals) step }
 {
     match step {
         Step::AtomsClose(at) => close_atoms(table, trail, at),

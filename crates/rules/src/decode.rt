@@ -135,7 +135,7 @@ pub fn decode_step<K: Pack>(
     raw: RawRecord,
     at: RecordNumber,
 ) -> Result<Step, Refusal>
-    ensures { result ≡ step_of (layouts pile.now) principals labels (record_of raw.entry) at }
+    ensures { result ≡ step_of (K.layouts pile.now) principals labels (record_of raw.entry) at }
 {
     let body = raw.body;
     match raw.kind {

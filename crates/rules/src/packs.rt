@@ -93,7 +93,7 @@ pub(crate) fn ask_pack<K: Pack>(
     labels: u16,
     step: PackStep,
 ) -> Option<Outcome<FormulaNumber>>
-    ensures { result ≡ of_pack (facts_at (items trail.now)) (readings pile.now) principals labels step }
+    ensures { result ≡ of_pack (facts_at (items trail.now)) (K.readings pile.now) principals labels step }
 {
     let named = named(trail, step.positions)?;
     let operands = Operands {

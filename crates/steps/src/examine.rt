@@ -36,7 +36,7 @@ pub fn examine_derivation<K: Pack>(
     trail: &mut [Fact],
     waiting: &mut [Waiting],
 ) -> Result<(), Refusal>
-    ensures verdict { (fs : List (FactView FormulaNumber)) → facts.now ≡ map stored fs → Verdict (conditions pile.now) (tree_setting (layouts pile.now) (readings pile.now) principals (min 512 (length trail.old)) (min 64 (length waiting.old))) (sequent_of (nodes_of table.now) fs labels) (bytes_of file.entry) result }
+    ensures verdict { (fs : List (FactView FormulaNumber)) → facts.now ≡ map stored fs → Verdict (K.conditions pile.now) (tree_setting (K.layouts pile.now) (K.readings pile.now) principals (min 512 (length trail.old)) (min 64 (length waiting.old))) (sequent_of (nodes_of table.now) fs labels) (bytes_of file.entry) result }
     ensures trail { Cleared no_fact trail.old trail.new }
     ensures waiting { Cleared no_waiting waiting.old waiting.new }
 {

@@ -34,7 +34,7 @@ fn advance<K: Pack>(
     at: RecordNumber,
 ) -> Result<Option<u16>, Refusal>
     requires { Sound (room trail.old) (items trail.old) (items waiting.old) (Some labels) }
-    ensures shows { Shows (room trail.old) (stepped (stored_setting (nodes_of table.now) (layouts pile.now) (readings pile.now) principals (room trail.old) (room waiting.old)) at (record_of raw.entry) (branch (items trail.old) labels) (waitings (items trail.old) (reverse (items waiting.old)))) (items trail.new) (items waiting.new) result }
+    ensures shows { Shows (room trail.old) (stepped (stored_setting (nodes_of table.now) (K.layouts pile.now) (K.readings pile.now) principals (room trail.old) (room waiting.old)) at (record_of raw.entry) (branch (items trail.old) labels) (waitings (items trail.old) (reverse (items waiting.old)))) (items trail.new) (items waiting.new) result }
     ensures trail { Same trail.old trail.new }
     ensures waiting { Same waiting.old waiting.new }
 {
@@ -58,7 +58,7 @@ fn walk<K: Pack>(
     file: File,
 ) -> Result<(), Refusal>
     requires { Sound (room trail.old) (items trail.old) (items waiting.old) (Some labels) }
-    ensures answer { result ≡ read_bytes (reader (stored_setting (nodes_of table.now) (layouts pile.now) (readings pile.now) principals (room trail.old) (room waiting.old))) 0 (branches (items trail.old) (items waiting.old) (Some labels)) (bytes_of file.entry) }
+    ensures answer { result ≡ read_bytes (reader (stored_setting (nodes_of table.now) (K.layouts pile.now) (K.readings pile.now) principals (room trail.old) (room waiting.old))) 0 (branches (items trail.old) (items waiting.old) (Some labels)) (bytes_of file.entry) }
     ensures trail { Same trail.old trail.new }
     ensures waiting { Same waiting.old waiting.new }
 {
@@ -112,7 +112,7 @@ pub(crate) fn start<K: Pack>(
 ) -> Result<(), Refusal>
     requires trail { items trail.old ≡ [] }
     requires waiting { items waiting.old ≡ [] }
-    ensures answer { result ≡ examined (stored_setting (nodes_of table.now) (layouts pile.now) (readings pile.now) principals (room trail.old) (room waiting.old)) (branch facts.now labels) (bytes_of file.entry) }
+    ensures answer { result ≡ examined (stored_setting (nodes_of table.now) (K.layouts pile.now) (K.readings pile.now) principals (room trail.old) (room waiting.old)) (branch facts.now labels) (bytes_of file.entry) }
     ensures trail { Same trail.old trail.new }
     ensures waiting { Same waiting.old waiting.new }
 {
