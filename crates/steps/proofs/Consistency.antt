@@ -1,15 +1,14 @@
 -- No step closes a branch with no left formula and none but falsity on the right. Assumes nothing.
-use Rattle.std.proofs.Common.{◌≡◌, ℕ, zero, suc, List, [], ◌∷◌, ◌++◌, map, Some, None, Option, sym, refl, ap, ◌∙◌, subst, arith}
+use Rattle.std.proofs.Common.{◌≡◌, ℕ, zero, suc, List, [], ◌∷◌, ◌++◌, map, Some, Option, sym, refl, ap, ◌∙◌, subst, arith}
 use Rattle.std.specs.List.{slice_get, AllByRecursion as All}
 use Rattle.std.proofs.ByRecursion.{All-append}
 use Rattle.records.specs.declared.numbers.FactPosition.{FactPosition}
-use Rattle.records.specs.declared.numbers.Label.{Label}
 use Rattle.records.specs.Chains.{Record}
 use Rattle.records.specs.declared.numbers.Principal.{Principal}
 use Rattle.logic.specs.declared.terms.Modality.{Modality}
 use Rattle.logic.specs.declared.terms.Modality.TheVariants.{Permitted}
 use Rattle.logic.specs.declared.terms.FactView.{FactView}
-use Rattle.logic.specs.declared.terms.FactView.TheVariants.{Left, Right, Linked}
+use Rattle.logic.specs.declared.terms.FactView.TheVariants.{Left, Right}
 use Rattle.logic.specs.declared.terms.Node.{Node}
 use Rattle.logic.specs.declared.terms.Node.TheVariants.{Falsity, And, Or, Implies, Modal}
 use Rattle.logic.specs.Models.{Formula, falsity}

@@ -1,5 +1,5 @@
 -- One record: what it does, or why it is refused, in the words of the rules. Assumes nothing.
-use Rattle.std.proofs.Common.{◌≡◌, ℕ, ◌+◌, ◌<◌, ◌≤◌, Bool, true, false, cond, ◌&&◌, T, eqb, ltb, leb, ◌⊎◌, List, [], ◌∷◌, length, Some, None, Ok, Err, Option, Result, sym, refl, ap, ◌∙◌, subst, inl, inr, arith}
+use Rattle.std.proofs.Common.{◌≡◌, ℕ, ◌+◌, ◌<◌, Bool, true, false, cond, ◌&&◌, T, eqb, ltb, leb, ◌⊎◌, List, [], ◌∷◌, length, Some, None, Ok, Err, Option, Result, sym, refl, ap, ◌∙◌, subst, inl, inr, arith}
 use mathlib.Core.Bool.{false≢true}
 use Rattle.std.proofs.lemmas.Bool.{and_parts, leb-true, le-leb, ltb-true, lt-ltb}
 use Rattle.records.specs.declared.numbers.Label.{Label}
@@ -20,7 +20,7 @@ use Rattle.rules.specs.Decoding.{onward, number_at, pack_step, label_below, step
 use Rattle.rules.specs.Outcomes.{listed}
 use Rattle.rules.specs.Rules.{Rule}
 use Rattle.rules.proofs.Computes.{computes_rules}
-use Rattle.steps.specs.Branches.{Branch, Setting, number, label_fits, has_room, moved, scene, stepped, advanced}
+use Rattle.steps.specs.Branches.{Branch, Setting, number, label_fits, has_room, moved, scene, advanced}
 use Rattle.steps.specs.Derivations.{Asks, Fits, RoomFor, open_then, Does, does, Refuses, none_open, no_step, not_as_needed, no_room}
 
 pub err_ok : {X A : Type 0} (e : Refusal) (x : X) → ◌≡◌ {A = Result X Refusal} (Err e) (Ok x) → A

@@ -1,7 +1,6 @@
 -- A walk is taken exactly where its records list a closed derivation, and refused exactly where a record or the end is bad. Assumes nothing.
-use Rattle.std.proofs.Common.{◌≡◌, ℕ, zero, suc, ◌+◌, ◌<◌, ◌≤◌, Bool, true, false, cond, leb, ◌⊎◌, ◌↔◌, List, [], ◌∷◌, ◌++◌, length, Ok, Err, Result, sym, refl, ap, ◌∙◌, subst, inl, inr, append_assoc, append-nil, arith, length-append}
-use mathlib.Core.Bool.{false≢true}
-use Rattle.std.proofs.lemmas.Bool.{leb-true, le-leb, leb-false}
+use Rattle.std.proofs.Common.{◌≡◌, ℕ, zero, suc, ◌+◌, ◌<◌, ◌≤◌, Bool, true, false, cond, leb, ◌⊎◌, List, [], ◌∷◌, ◌++◌, length, Ok, Err, Result, sym, refl, ap, ◌∙◌, subst, inl, inr, append_assoc, append-nil, arith, length-append}
+use Rattle.std.proofs.lemmas.Bool.{leb-true, leb-false}
 use Rattle.records.specs.declared.refusal.Refusal.{Refusal}
 use Rattle.records.specs.declared.refusal.Refusal.TheVariants.{Frame, NoRoom, AfterClosed, EndsEarly}
 use Rattle.records.specs.Chains.{Record, chain}
@@ -12,9 +11,9 @@ use Rattle.rules.specs.declared.outcome.Outcome.{Outcome}
 use Rattle.rules.specs.declared.outcome.Outcome.TheVariants.{Closes, Goes, Forks}
 use Rattle.rules.specs.declared.step.Step.{Step}
 use Rattle.rules.specs.Rules.{Rule}
-use Rattle.steps.specs.Branches.{Branch, Setting, Answer, number, scene, advanced, ended, reader, examined}
-use Rattle.steps.specs.Derivations.{Asks, Fits, with_premise, open_then, RoomFor, Closed, leaf, grow, fork, Does, Refuses, Reached, here, on, Lists, Refused, too_many_facts, bad_record, ends_early, broken_frame, after_closed, Exactly}
-use Rattle.steps.proofs.Decided.{err_ok, ok_err, Doing, doing_of, does_of, of_does, refuses_of, of_refuses, advanced_by, room_moves}
+use Rattle.steps.specs.Branches.{Branch, Setting, Answer, number, scene, advanced, reader, examined}
+use Rattle.steps.specs.Derivations.{Asks, with_premise, open_then, RoomFor, Closed, leaf, grow, fork, Reached, here, on, Refused, too_many_facts, bad_record, ends_early, broken_frame, after_closed, Exactly}
+use Rattle.steps.proofs.Decided.{err_ok, ok_err, doing_of, does_of, of_does, refuses_of, of_refuses, advanced_by, room_moves}
 
 module _ {X F : Type 0} (S : Setting X F) where
   abbrev R : Reader (List (Branch X)) (Unit {0})

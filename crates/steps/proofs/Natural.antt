@@ -1,9 +1,8 @@
 -- The walk does not depend on what formulas are given by, and how facts lie in places. Assumes nothing.
-use Rattle.std.proofs.Common.{◌≡◌, ℕ, zero, suc, ◌+◌, Bool, true, false, cond, ◌&&◌, ltb, leb, List, [], ◌∷◌, ◌++◌, map, length, Some, None, Ok, Err, Option, Result, sym, refl, ap, ◌∙◌, subst, ap₂}
+use Rattle.std.proofs.Common.{◌≡◌, ℕ, zero, suc, ◌+◌, Bool, true, false, cond, ◌&&◌, ltb, leb, List, [], ◌∷◌, ◌++◌, map, length, Some, None, Ok, Err, Option, Result, sym, refl, ap, ◌∙◌, ap₂}
 use mathlib.Core.List.{map-append}
 use lib.ListN.{length-map}
 use Rattle.std.specs.List.{slice_get}
-use Rattle.records.specs.declared.numbers.FactPosition.{FactPosition}
 use Rattle.records.specs.declared.numbers.FormulaNumber.{FormulaNumber}
 use Rattle.records.specs.declared.numbers.RecordNumber.{RecordNumber}
 use Rattle.records.specs.declared.refusal.Refusal.{Refusal}
@@ -30,8 +29,8 @@ use Rattle.rules.specs.declared.step.Step.{Step}
 use Rattle.rules.specs.Applying.{applied}
 use Rattle.rules.specs.Decoding.{onward, step_of}
 use Rattle.rules.specs.Outcomes.{listed}
-use Rattle.rules.specs.Scenes.{Scene, look, told, node_of}
-use Rattle.steps.specs.Branches.{Branch, Room, Setting, Answer, branch, number, labels_after, fits, label_fits, grown, has_room, moved, scene, stepped, advanced, ended, broken_off, reader, examined}
+use Rattle.rules.specs.Scenes.{look, told, node_of}
+use Rattle.steps.specs.Branches.{Branch, Setting, Answer, branch, number, labels_after, label_fits, grown, has_room, moved, scene, stepped, advanced, reader, examined}
 use Rattle.steps.specs.Memory.{stored_setting}
 use Rattle.steps.specs.Verdicts.{tree_setting, sequent_of, root}
 use Rattle.steps.proofs.Rewording.{opt_map, few_map, growth_map, out_map, applied_nat}

@@ -1,9 +1,7 @@
 -- What a step does, does not depend on what formulas are given by. Assumes nothing.
-use Rattle.std.proofs.Common.{◌≡◌, ℕ, Bool, true, false, cond, not, ◌&&◌, ◌||◌, eqb, Some, None, Option, sym, refl, ap, ◌∙◌, subst, ap₂}
+use Rattle.std.proofs.Common.{◌≡◌, ℕ, Bool, true, false, not, ◌&&◌, eqb, Some, None, Option, refl, ap, ◌∙◌, ap₂}
 use Rattle.records.specs.declared.numbers.FactPosition.{FactPosition}
 use Rattle.records.specs.declared.numbers.Label.{Label}
-use Rattle.logic.specs.declared.terms.Modality.{Modality}
-use Rattle.logic.specs.declared.terms.Link.{Link}
 use Rattle.logic.specs.declared.terms.Link.TheVariants.{Order, Arrow}
 use Rattle.logic.specs.declared.terms.FactView.{FactView}
 use Rattle.logic.specs.declared.terms.FactView.TheVariants.{Left, Right, Linked}
@@ -12,13 +10,10 @@ use Rattle.logic.specs.declared.terms.Node.TheVariants.{Atom, Falsity, And, Or, 
 use Rattle.logic.specs.Formulas.{node_map}
 use Rattle.logic.specs.Facts.{fact_map}
 use Rattle.logic.specs.ModelRules.{universal}
-use Rattle.piles.specs.declared.terms.Named.{Named}
 use Rattle.piles.specs.declared.terms.Premise.{Premise}
 use Rattle.piles.specs.declared.terms.Premise.TheVariants.{Adds, AddsBoth}
 use Rattle.piles.specs.declared.terms.Reading.{Reading}
 use Rattle.piles.specs.declared.terms.Reading.TheVariants.{Unknown, NoInstance, Goes as PackGoes, Splits as PackSplits}
-use Rattle.piles.specs.Instances.{new_label}
-use Rattle.rules.specs.declared.outcome.ArrowParts.{ArrowParts}
 use Rattle.rules.specs.declared.outcome.Boxed.{Boxed}
 use Rattle.rules.specs.declared.outcome.Few.{Few}
 use Rattle.rules.specs.declared.outcome.Few.TheVariants.{One, Two, Three}
@@ -29,8 +24,8 @@ use Rattle.rules.specs.declared.step.Positions.{Positions}
 use Rattle.rules.specs.declared.step.Positions.TheVariants.{Zero, One as OnePosition, Two as TwoPositions}
 use Rattle.rules.specs.declared.step.Step.{Step}
 use Rattle.rules.specs.declared.step.Step.TheVariants.{AtomsClose, FalsityCloses, AndLeft, AndRight, OrLeft, OrRight, ImpliesLeft, ImpliesRight, ModalLeft, ModalRight, PermittedLeft, PermittedRight, Reflexive, Transitive, Monotone, OfPack}
-use Rattle.rules.specs.Applying.{given, only_if, same_label, left_of, right_of, order_of, arrow_of, atom_of, falsity_of, and_of, or_of, implies_of, modal_of, universal_of, permitted_of, end_of, shifted, of_reading, applied}
-use Rattle.rules.specs.Outcomes.{adds, opens_with, pack_adds}
+use Rattle.rules.specs.Applying.{given, only_if, same_label, left_of, right_of, order_of, arrow_of, atom_of, falsity_of, and_of, or_of, implies_of, universal_of, permitted_of, end_of, shifted, of_reading, applied}
+use Rattle.rules.specs.Outcomes.{adds, pack_adds}
 use Rattle.rules.specs.PackSteps.{hidden, one_named, two_named, named_at, operands_of}
 use Rattle.rules.specs.Scenes.{Scene}
 

@@ -1,5 +1,5 @@
 -- What a record does to the branches, by the stacks. Assumes nothing.
-use Rattle.std.proofs.Common.{◌≡◌, ℕ, ◌+◌, ◌<◌, ◌≤◌, Bool, true, false, cond, ◌&&◌, ltb, leb, List, [], ◌∷◌, ◌++◌, map, reverse, length, take, Some, None, Ok, Err, sym, refl, ap, ◌∙◌, subst, arith, length-append}
+use Rattle.std.proofs.Common.{◌≡◌, ℕ, ◌+◌, ◌≤◌, true, false, ltb, leb, List, [], ◌∷◌, ◌++◌, map, reverse, length, take, Some, Ok, Err, sym, ap, ◌∙◌, subst, arith, length-append}
 use Rattle.std.proofs.lemmas.List.{take_at, reverse-append, length-reverse}
 use Rattle.std.proofs.lemmas.Bool.{and_parts, leb-true}
 use Rattle.records.specs.declared.numbers.FormulaNumber.{FormulaNumber}
@@ -12,8 +12,8 @@ use Rattle.rules.specs.declared.outcome.Outcome.TheVariants.{Goes, Forks}
 use Rattle.rules.specs.Outcomes.{listed}
 use Rattle.steps.specs.declared.waiting.Added.{Added}
 use Rattle.steps.specs.declared.waiting.Waiting.{Waiting}
-use Rattle.steps.specs.Branches.{Branch, branch, grown, fits, label_fits, labels_after, moved}
-use Rattle.steps.specs.Memory.{rooms, waitings, branches, Kept, Sound, Shows, OverStacks}
+use Rattle.steps.specs.Branches.{branch, grown, fits, label_fits, labels_after, moved}
+use Rattle.steps.specs.Memory.{rooms, waitings, branches, Kept, OverStacks}
 use Rattle.steps.specs.Waits.{laid, added_of}
 use Rattle.steps.proofs.Trails.{waitings_grown, kept_more, length_waitings, laid_added, length_laid}
 

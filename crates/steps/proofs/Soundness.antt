@@ -1,5 +1,5 @@
 -- Soundness: a standing that falsifies a branch goes on to some premise of every step, and no step closes the branch. Assumes nothing.
-use Rattle.std.proofs.Common.{◌≡◌, ℕ, zero, suc, ◌+◌, ◌<◌, ◌≤◌, Bool, true, false, cond, not, ◌&&◌, ◌||◌, T, eqb, ◌⊎◌, List, [], ◌∷◌, ◌++◌, map, Some, None, Option, sym, refl, ap, ◌∙◌, subst, inl, inr, arith}
+use Rattle.std.proofs.Common.{◌≡◌, ℕ, zero, suc, ◌+◌, ◌<◌, ◌≤◌, Bool, true, false, cond, not, ◌||◌, T, eqb, ◌⊎◌, List, [], ◌∷◌, ◌++◌, map, Some, None, Option, sym, refl, ap, ◌∙◌, subst, inl, inr, arith}
 use mathlib.Core.Logic.{⊎_map}
 use Rattle.std.specs.List.{slice_get, AllByRecursion as All}
 use Rattle.std.proofs.lemmas.Bool.{eq-eqb, ne_eqb, cases_eq, eqb-false, or_parts}
@@ -17,9 +17,9 @@ use Rattle.logic.specs.declared.terms.FactView.TheVariants.{Left, Right, Linked}
 use Rattle.logic.specs.declared.terms.Node.{Node}
 use Rattle.logic.specs.declared.terms.Node.TheVariants.{Atom, Falsity, And, Or, Implies, Modal}
 use Rattle.logic.specs.Models.{Formula, atom, falsity, and, or, implies, modal, Model, Frame, holds, every, ◌⊃◌}
-use Rattle.logic.specs.ModelRules.{Regular, Keeps, universal}
+use Rattle.logic.specs.ModelRules.{Keeps, universal}
 use Rattle.logic.specs.Formulas.{shape, made}
-use Rattle.logic.specs.Facts.{Sequent, Standing, Placed, linked, falsifies, LinkFits, Scoped, WellScoped, Holds}
+use Rattle.logic.specs.Facts.{Sequent, Standing, Placed, falsifies, LinkFits, Scoped}
 use Rattle.logic.proofs.Bools.{T_and, T_or, T_not, T_cases, not_and, not_or, not_every, not_if, some_fails}
 use Rattle.logic.proofs.Truth.{holds_universal, holds_implies, holds_permitted}
 use Rattle.logic.proofs.Persistence.{persistence}
@@ -33,10 +33,9 @@ use Rattle.piles.specs.declared.terms.Reading.{Reading}
 use Rattle.piles.specs.declared.terms.Reading.TheVariants.{Goes as PackGoes, Splits as PackSplits}
 use Rattle.piles.specs.Asked.{SomePrincipals, SomeLabels, arity, FactFits, NamedFit, LabelFits, AskedAs}
 use Rattle.piles.specs.Instances.{new_label}
-use Rattle.piles.specs.Packs.{Condition, Readings, Admits, Laws}
-use Rattle.piles.specs.Readings.{FactHolds, NamedHold, PremiseHolds, extend, Opens, Follows, Respects, LinkHas, FactHas, NamedHas, GivenIs, Usable, LinkUses, PremiseUses, ReadingUses}
+use Rattle.piles.specs.Packs.{Condition, Readings, Laws}
+use Rattle.piles.specs.Readings.{FactHolds, NamedHold, extend, Opens, Follows, Respects, LinkHas, FactHas, NamedHas, GivenIs, Usable, LinkUses, PremiseUses, ReadingUses}
 use Rattle.rules.specs.declared.outcome.Few.{Few}
-use Rattle.rules.specs.declared.outcome.Few.TheVariants.{One, Two, Three}
 use Rattle.rules.specs.declared.outcome.Growth.{Growth}
 use Rattle.rules.specs.declared.outcome.Outcome.{Outcome}
 use Rattle.rules.specs.declared.outcome.Outcome.TheVariants.{Closes, Goes, Forks}
@@ -49,8 +48,8 @@ use Rattle.rules.specs.PackSteps.{hidden, one_named, two_named, named_at, operan
 use Rattle.rules.specs.Scenes.{Scene, told}
 use Rattle.rules.specs.Rules.{Rule, atoms_close, falsity_closes, and_left, and_right, or_left, or_right, implies_left, implies_right, modal_left, modal_right, permitted_left, permitted_right, reflexive, transitive, monotone, monotone_permitted, pack_goes, pack_forks}
 use Rattle.rules.proofs.Inversions.{never}
-use Rattle.steps.specs.Branches.{Branch, Setting, branch, number, labels_after}
-use Rattle.steps.specs.Derivations.{Fits, with_premise, Closed, leaf, grow, fork}
+use Rattle.steps.specs.Branches.{Branch, Setting, number, labels_after}
+use Rattle.steps.specs.Derivations.{Closed, leaf, grow, fork}
 use Rattle.steps.specs.Verdicts.{tree_setting, root, Proper, Valid}
 use Rattle.steps.proofs.Told.{arity_of, PackTold, Told, step_told}
 

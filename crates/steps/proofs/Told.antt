@@ -1,7 +1,6 @@
 -- What is known of a step that a record asks for: its label and principal are in range, and a pack's kind has a body. Assumes nothing.
-use Rattle.std.proofs.Common.{◌≡◌, ℕ, ◌+◌, ◌<◌, Bool, true, false, cond, eqb, ltb, List, length, is_some, Some, None, Ok, Err, Option, Result, sym, refl, ap, ◌∙◌, subst, arith}
+use Rattle.std.proofs.Common.{◌≡◌, ℕ, ◌+◌, ◌<◌, Bool, true, false, cond, eqb, ltb, List, length, is_some, Some, None, Ok, Err, Option, Result, refl, subst, arith}
 use Rattle.std.proofs.lemmas.Bool.{ltb-true}
-use Rattle.records.specs.declared.numbers.Label.{Label}
 use Rattle.records.specs.declared.numbers.RecordNumber.{RecordNumber}
 use Rattle.records.specs.declared.refusal.Refusal.{Refusal}
 use Rattle.records.specs.declared.refusal.Refusal.TheVariants.{OutOfRange}
@@ -18,7 +17,7 @@ use Rattle.rules.specs.declared.step.PackStep.{PackStep}
 use Rattle.rules.specs.declared.step.Step.{Step}
 use Rattle.rules.specs.declared.step.Step.TheVariants.{AtomsClose, FalsityCloses, AndLeft, AndRight, OrLeft, OrRight, ImpliesLeft, ImpliesRight, ModalLeft, ModalRight, PermittedLeft, PermittedRight, Reflexive, Transitive, Monotone, OfPack}
 use Rattle.rules.specs.Contents.{one_position, one_label, closing_at, left_order_at, left_arrow_at, right_arrow_at, two_orders_at, order_arrow_order_at}
-use Rattle.rules.specs.Decoding.{onward, number_at, label_of, principal_of, positions_at, positions_width, width, layout_size, label_below, pack_step, step_of}
+use Rattle.rules.specs.Decoding.{onward, number_at, label_of, principal_of, positions_at, positions_width, width, layout_size, pack_step, step_of}
 use Rattle.steps.proofs.Decided.{err_ok}
 
 -- how many positions

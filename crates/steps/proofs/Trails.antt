@@ -1,17 +1,16 @@
 -- The open branches by the stacks. Assumes nothing.
-use Rattle.std.proofs.Common.{◌≡◌, ℕ, suc, ◌+◌, ◌<◌, ◌≤◌, List, [], ◌∷◌, ◌++◌, map, reverse, length, get_or, take, Some, None, sym, refl, ap, ◌∙◌, subst, ap₂, append-nil, arith, length-append, length-take}
+use Rattle.std.proofs.Common.{◌≡◌, ℕ, suc, ◌+◌, ◌<◌, ◌≤◌, List, [], ◌∷◌, ◌++◌, map, reverse, length, get_or, take, Some, sym, refl, ap, ◌∙◌, subst, ap₂, arith, length-append}
 use lib.ListN.{length-map}
 use Rattle.std.proofs.lemmas.List.{take-append-le, length-take-le, take_more}
 use Rattle.records.specs.declared.numbers.FormulaNumber.{FormulaNumber}
 use Rattle.logic.specs.declared.fact.Fact.{Fact}
 use Rattle.logic.specs.declared.terms.FactView.{FactView}
-use Rattle.logic.specs.Stored.{stored, view_of}
+use Rattle.logic.specs.Stored.{stored}
 use Rattle.logic.proofs.Facts.{facts_stored}
 use Rattle.rules.specs.declared.outcome.Few.{Few}
 use Rattle.rules.specs.declared.outcome.Few.TheVariants.{One, Two, Three}
 use Rattle.rules.specs.Outcomes.{listed}
 use Rattle.steps.specs.declared.waiting.Waiting.{Waiting}
-use Rattle.steps.specs.Branches.{Branch, branch}
 use Rattle.steps.specs.Memory.{waitings, branches, Kept, Sound}
 use Rattle.steps.specs.Waits.{laid_by, laid_one, laid, added_of}
 

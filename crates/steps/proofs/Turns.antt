@@ -1,12 +1,12 @@
 -- One record of a walk over bytes. Assumes nothing.
-use Rattle.std.proofs.Common.{◌≡◌, ℕ, ◌+◌, List, [], ◌∷◌, reverse, Some, None, Ok, Err, Option, Result, sym, refl, ap, ◌∙◌, subst}
+use Rattle.std.proofs.Common.{◌≡◌, ℕ, ◌+◌, List, [], reverse, Some, Ok, Err, Option, Result, sym, refl, ap, ◌∙◌}
 use Rattle.records.specs.declared.numbers.FormulaNumber.{FormulaNumber}
 use Rattle.records.specs.declared.numbers.RecordNumber.{RecordNumber}
 use Rattle.records.specs.declared.refusal.Refusal.{Refusal}
 use Rattle.records.specs.declared.refusal.Refusal.TheVariants.{AfterClosed}
 use Rattle.records.specs.Chains.{Record, Front, whole, cut, front}
 use Rattle.records.specs.Readers.{read_bytes}
-use Rattle.records.proofs.Readers.{read_more, read_bad, read_end, read_broken}
+use Rattle.records.proofs.Readers.{read_more, read_bad, read_broken}
 use Rattle.logic.specs.declared.fact.Fact.{Fact}
 use Rattle.steps.specs.declared.waiting.Waiting.{Waiting}
 use Rattle.steps.specs.Branches.{Branch, Setting, branch, number, stepped, reader}

@@ -1,5 +1,5 @@
 -- What the answer to a derivation says, by the laws of the pile. Assumes nothing.
-use Rattle.std.proofs.Common.{◌≡◌, ℕ, true, List, map, Option, sym, refl, ap, ◌∙◌}
+use Rattle.std.proofs.Common.{◌≡◌, ℕ, true, List, map, Option, ◌∙◌}
 use Rattle.records.specs.declared.numbers.FormulaNumber.{FormulaNumber}
 use Rattle.records.specs.Chains.{chain}
 use Rattle.logic.specs.declared.terms.FactView.{FactView}

@@ -1,5 +1,5 @@
 -- What the answer to a derivation says of its sequent. Assumes nothing.
-use Rattle.std.specs.Prelude.{◌≡◌, ℕ, min, List, [], Some, Ok, Option}
+use Rattle.std.specs.Prelude.{◌≡◌, ℕ, List, Some, Ok, Option}
 use Rattle.std.specs.List.{AllByRecursion as All}
 use Rattle.records.specs.declared.numbers.FormulaNumber.{FormulaNumber}
 use Rattle.logic.specs.declared.terms.FactView.{FactView}

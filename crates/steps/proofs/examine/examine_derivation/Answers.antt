@@ -1,14 +1,12 @@
-use Rattle.std.proofs.Common.{◌≡◌, ℕ, min, List, map, length, sym, refl, ap, ◌∙◌, rules}
+use Rattle.std.proofs.Common.{◌≡◌, ℕ, min, length, ap, ◌∙◌, rules}
 use Rattle.records.specs.Files.{bytes_of}
-use Rattle.records.specs.Chains.{chain}
 use Rattle.records.specs.declared.numbers.FormulaNumber.{FormulaNumber}
-use Rattle.stack.specs.Stacks.{items, room}
+use Rattle.stack.specs.Stacks.{room}
 use Rattle.stack.proofs.Counts.{cleared, made_room}
 use Rattle.logic.specs.declared.fact.Fact.{Fact}
 use Rattle.logic.specs.Tables.{nodes_of}
 use Rattle.steps.specs.Branches.{Setting, branch, examined}
 use Rattle.steps.specs.Memory.{stored_setting}
-use Rattle.steps.specs.Verdicts.{tree_setting, sequent_of, root}
 use Rattle.steps.proofs.Verdict.{verdict}
 use Rattle.steps.proofs.examine.examine_derivation.Goals as goal
 

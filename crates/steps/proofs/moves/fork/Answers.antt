@@ -1,4 +1,4 @@
-use Rattle.std.proofs.Common.{◌≡◌, ◌++◌, refl}
+use Rattle.std.proofs.Common.{◌++◌, refl}
 use Rattle.stack.specs.Stacks.{items, room}
 use Rattle.stack.proofs.Counts.{same_refl}
 use Rattle.steps.specs.Branches.{labels_after}

@@ -1,5 +1,5 @@
-use Rattle.std.proofs.Common.{◌≡◌, ◌+◌, ◌≤◌, ◌++◌, length, sym, ap, ◌∙◌, append_assoc, arith, length-append}
-use Rattle.stack.specs.Stacks.{items, room}
+use Rattle.std.proofs.Common.{◌++◌, length, ap, ◌∙◌, append_assoc, arith, length-append}
+use Rattle.stack.specs.Stacks.{items}
 use Rattle.stack.proofs.Counts.{same_room, same_then}
 use Rattle.steps.specs.Waits.{laid_one}
 use Rattle.steps.proofs.moves.lay.Goals as goal

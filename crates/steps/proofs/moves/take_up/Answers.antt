@@ -1,4 +1,4 @@
-use Rattle.std.proofs.Common.{◌≡◌, ℕ, ◌+◌, ◌≤◌, [], ◌∷◌, ◌++◌, reverse, length, take, Some, sym, refl, ap, ◌∙◌, subst}
+use Rattle.std.proofs.Common.{◌≡◌, ℕ, [], ◌∷◌, ◌++◌, reverse, take, Some, sym, ap, ◌∙◌, subst}
 use Rattle.stack.specs.Stacks.{items, room}
 use Rattle.stack.proofs.Counts.{same_room, same_then, same_refl}
 use Rattle.stack.proofs.Ends.{popped_none, popped_first}

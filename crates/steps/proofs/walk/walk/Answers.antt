@@ -1,4 +1,4 @@
-use Rattle.std.proofs.Common.{◌≡◌, ℕ, ◌+◌, ◌≤◌, [], length, Some, None, Ok, ap, ◌∙◌, subst, arith}
+use Rattle.std.proofs.Common.{◌≡◌, ℕ, length, Ok, ap, ◌∙◌, subst, arith}
 use Rattle.stack.specs.Stacks.{items, room}
 use Rattle.stack.proofs.Counts.{same_room, same_then}
 use Rattle.records.specs.Chains.{record_of}
@@ -68,7 +68,7 @@ returns-then-left-gt0 g c =
     let inv = c.walking.invariant in
     let S = stored_setting (nodes_of c.args.table.now) (g.K.Pack.layouts c.args.pile.now) (g.K.Pack.readings c.args.pile.now) c.args.principals (room s) (room w) in
     record {
-      answer = stops_after S at.number at.rest.now c.number-at.result c.number-at.ensures (branches (items t) (items v) c.walking.current) (ap (branches (items t) (items v)) c.in-default.is) (λ none. omega (arith, ap length none)) ∙ inv.0;
+      answer = stops_after S at.number at.rest.now c.number-at.result c.number-at.ensures (branches (items t) (items v) c.walking.current) (ap (branches (items t) (items v)) c.in_default.is) (λ none. omega (arith, ap length none)) ∙ inv.0;
       trail = inv.2;
       waiting = inv.3;
     }

@@ -1,4 +1,4 @@
-use Rattle.std.proofs.Common.{◌≡◌, ◌+◌, ◌*◌, ◌≤◌, length, Some}
+use Rattle.std.proofs.Common.{◌≡◌, length, Some}
 use Rattle.stack.specs.Stacks.{items, room, Same}
 use Rattle.records.specs.Files.{bytes_of}
 use Rattle.records.specs.Readers.{read_bytes}
