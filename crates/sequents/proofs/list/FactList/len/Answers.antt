@@ -4,10 +4,7 @@ use Rattle.sequents.specs.Used.{used}
 use Rattle.sequents.proofs.Views.{views_length}
 use Rattle.sequents.proofs.list.FactList.len.Goals as goal
 
-pub returns : goal.returns
-returns c =
+pub returns-clause-count : goal.returns-clause-count
+returns-clause-count c =
     let list = c.args.self.now in
-    record {
-      count = sym (views_length (used list.rows) list.proper ∙ length-take-le list.rows.len list.rows.facts (omega arith));
-      most = omega arith;
-    }
+    sym (views_length (used list.rows) list.proper ∙ length-take-le list.rows.len list.rows.facts (omega arith))

@@ -1,4 +1,4 @@
-use Rattle.std.proofs.Common.{◌≡◌, ◌<◌, ◌≤◌, true, [], ◌∷◌, ◌++◌, length, sym, refl, ap, ◌∙◌, subst, arith}
+use Rattle.std.proofs.Common.{◌≡◌, true, [], ◌∷◌, ◌++◌, length, sym, refl, ap, ◌∙◌, subst, arith}
 use Rattle.std.proofs.lemmas.List.{length-take-le}
 use Rattle.std.proofs.lemmas.Bool.{lt-ltb, le-ltb}
 use Rattle.logic.specs.Stored.{stored}
@@ -17,7 +17,11 @@ pub invariant_of-self : goal.invariant_of-self
 invariant_of-self c =
     let list = c.args.self.now in
     let grown : used c.push.new.self ≡ used list.rows ++ (stored c.args.view ∷ []) = c.push.ensures.grown ∙ ap (λ f. used list.rows ++ (f ∷ [])) c.of.ensures in
-    (omega arith, (omega arith, (subst (λ l. all_stored l ≡ true) (sym grown) (all_stored_push (used list.rows) c.args.view list.proper), tt)))
+    record {
+      whole = omega arith;
+      room = omega arith;
+      proper = subst (λ l. all_stored l ≡ true) (sym grown) (all_stored_push (used list.rows) c.args.view list.proper);
+    }
 
 pub returns : goal.returns
 returns c =
