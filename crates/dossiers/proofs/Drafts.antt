@@ -1,5 +1,5 @@
 -- What one record does to a draft. Assumes nothing.
-use Rattle.std.proofs.Common.{◌≡◌, ℕ, ◌+◌, Bool, true, false, cond, eqb, List, [], length, Some, None, Ok, Err, Option, Result, sym, refl, ap, ◌∙◌, subst}
+use Rattle.std.proofs.Common.{◌≡◌, ℕ, false, eqb, List, length, Some, None, Ok, Err, Option, Result, sym, ap, subst}
 use Rattle.std.proofs.lemmas.Bool.{cond-false}
 use Rattle.records.specs.declared.numbers.FormulaNumber.{FormulaNumber}
 use Rattle.records.specs.declared.numbers.LabelCount.{LabelCount}
@@ -8,7 +8,7 @@ use Rattle.records.specs.Chains.{Record}
 use Rattle.logic.specs.declared.terms.Node.{Node}
 use Rattle.logic.specs.declared.terms.FactView.{FactView}
 use Rattle.dossiers.specs.Entries.{onward}
-use Rattle.dossiers.specs.Dossiers.{Stage, formulas, sequent, numbered, formulas_at, facts_at, labels_at, entered}
+use Rattle.dossiers.specs.Dossiers.{Stage, formulas, sequent, numbered, formulas_at, facts_at, entered}
 use Rattle.dossiers.specs.Drafts.{staged, Takes}
 
 -- what is taken, made into a stage

@@ -2,13 +2,13 @@
 use Rattle.std.specs.Prelude.{◌≡◌, ℕ, List, Ok, Err, Result}
 use Rattle.records.specs.declared.numbers.FormulaNumber.{FormulaNumber}
 use Rattle.records.specs.declared.refusal.Refusal.{Refusal}
-use Rattle.records.specs.Readers.{read_bytes, ReadsBy}
+use Rattle.records.specs.Readers.{read_bytes}
 use Rattle.logic.specs.declared.terms.Node.{Node}
 use Rattle.logic.specs.Tables.{nodes_of}
 use Rattle.sequents.specs.Sequents.{facts_of}
 use Rattle.dossiers.specs.declared.draft.Draft.{Draft}
 use Rattle.dossiers.specs.declared.read.Dossier.{Dossier}
-use Rattle.dossiers.specs.Dossiers.{Stage, formulas, Kept, finished, dossier_reader}
+use Rattle.dossiers.specs.Dossiers.{formulas, Kept, finished, dossier_reader}
 use Rattle.dossiers.specs.Drafts.{stage_of}
 use Rattle.dossiers.specs.Laws.{DossierLaw}
 

@@ -1,5 +1,5 @@
 -- How a dossier is read: formulas, then the label count, then facts. Assumes nothing.
-use Rattle.std.specs.Prelude.{◌≡◌, ℕ, ◌+◌, cond, List, [], ◌∷◌, ◌++◌, length, Some, None, Ok, Err, Option, Result, ◌==◌, nat_lt}
+use Rattle.std.specs.Prelude.{ℕ, cond, List, [], ◌∷◌, ◌++◌, length, Ok, Err, Result, ◌==◌, nat_lt}
 use Rattle.records.specs.declared.numbers.FormulaNumber.{FormulaNumber}
 use Rattle.records.specs.declared.numbers.RecordNumber.{RecordNumber}
 use Rattle.records.specs.declared.refusal.Refusal.{Refusal}

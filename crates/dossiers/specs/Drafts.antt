@@ -1,5 +1,5 @@
 -- A dossier while it is read, as a stage of its reading. Assumes nothing.
-use Rattle.std.specs.Prelude.{◌≡◌, ℕ, List, Some, None, Ok, Err, Option, Result}
+use Rattle.std.specs.Prelude.{◌≡◌, List, Some, None, Ok, Err, Option, Result}
 use Rattle.records.specs.declared.numbers.FormulaNumber.{FormulaNumber}
 use Rattle.records.specs.declared.refusal.Refusal.{Refusal}
 use Rattle.records.specs.declared.numbers.LabelCount.{LabelCount}

@@ -5,17 +5,12 @@ use Rattle.records.specs.declared.numbers.RecordNumber.{RecordNumber}
 use Rattle.records.specs.declared.refusal.Refusal.{Refusal}
 use Rattle.records.specs.declared.refusal.Refusal.TheVariants.{Kind, OutOfRange}
 use Rattle.records.specs.Kinds.{decoded}
-use Rattle.kinds.specs.declared.formulas.Parts.{Parts}
-use Rattle.kinds.specs.declared.formulas.Modal.{Modal}
-use Rattle.kinds.specs.declared.facts.Labelled.{Labelled}
-use Rattle.kinds.specs.declared.facts.Ordered.{Ordered}
 use Rattle.kinds.specs.declared.facts.Arrowed.{Arrowed}
 use Rattle.kinds.specs.Contents.{atom_of, nothing_of, parts_of, modal_of, labelled_of, ordered_of, arrowed_of}
 use Rattle.logic.specs.declared.terms.Modality.{Modality}
 use Rattle.logic.specs.declared.terms.Modality.TheVariants.{Says, Controls, Ratified, Permitted}
 use Rattle.logic.specs.declared.terms.Node.{Node}
 use Rattle.logic.specs.declared.terms.Node.TheVariants.{Atom, Falsity, And, Or, Implies, Modal as ModalNode}
-use Rattle.logic.specs.declared.terms.Link.{Link}
 use Rattle.logic.specs.declared.terms.Link.TheVariants.{Order, Arrow}
 use Rattle.logic.specs.declared.terms.FactView.{FactView}
 use Rattle.logic.specs.declared.terms.FactView.TheVariants.{Left, Right, Linked}

@@ -1,12 +1,10 @@
 -- When a dossier is taken, in terms of its records. Assumes nothing.
-use Rattle.std.specs.Prelude.{◌≡◌, ℕ, ◌+◌, ◌<◌, ◌≤◌, true, ◌↔◌, List, [], ◌∷◌, ◌++◌, length, Some, Ok}
+use Rattle.std.specs.Prelude.{◌≡◌, ℕ, ◌<◌, true, ◌↔◌, List, [], ◌∷◌, ◌++◌, length, Ok}
 use Rattle.records.specs.declared.numbers.FormulaNumber.{FormulaNumber}
-use Rattle.records.specs.declared.numbers.LabelCount.{LabelCount}
 use Rattle.records.specs.Chains.{Record, chain}
 use Rattle.records.specs.Readers.{read_bytes, ReadsBy}
 use Rattle.kinds.specs.Contents.{atom_of, parts_of, modal_of, label_count_of, labelled_of, ordered_of, arrowed_of}
 use Rattle.logic.specs.declared.terms.Modality.{Modality}
-use Rattle.logic.specs.declared.terms.Modality.TheVariants.{Says, Controls, Ratified, Permitted}
 use Rattle.logic.specs.declared.terms.Node.{Node}
 use Rattle.logic.specs.declared.terms.Node.TheVariants.{Atom, Falsity, And, Or, Implies, Modal}
 use Rattle.logic.specs.declared.terms.Link.TheVariants.{Order, Arrow}

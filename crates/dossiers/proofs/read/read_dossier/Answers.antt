@@ -1,4 +1,4 @@
-use Rattle.std.proofs.Common.{◌≡◌, ℕ, Ok, Err, sym, ap, ◌∙◌, subst, arith}
+use Rattle.std.proofs.Common.{◌≡◌, Ok, Err, sym, ap, ◌∙◌, subst, arith}
 use Rattle.records.specs.Chains.{record_of}
 use Rattle.records.specs.Files.{bytes_of}
 use Rattle.records.specs.Readers.{read_bytes}
@@ -8,8 +8,7 @@ use Rattle.records.proofs.Readers.{read_more, read_bad, read_end, read_broken}
 use Rattle.logic.specs.Tables.{nodes_of}
 use Rattle.dossiers.specs.Answers.{Answers}
 use Rattle.dossiers.specs.Dossiers.{dossier_reader, finished, entered}
-use Rattle.dossiers.specs.Drafts.{stage_of, Takes}
-use Rattle.dossiers.proofs.Drafts.{takes_at}
+use Rattle.dossiers.specs.Drafts.{stage_of}
 use Rattle.dossiers.proofs.Laws.{dossier_law}
 use Rattle.dossiers.proofs.read.read_dossier.Goals as goal
 
