@@ -1,4 +1,4 @@
-use Rattle.std.proofs.Common.{◌≡◌, false, eqb, sym, ◌∙◌}
+use Rattle.std.proofs.Common.{◌≡◌, false, eqb, arith}
 use Rattle.std.proofs.lemmas.Bool.{ne_eqb}
 use Rattle.records.specs.Chains.{record_of}
 use Rattle.logic.specs.Tables.{nodes_of}
@@ -15,6 +15,6 @@ returns-in-Some c =
 pub returns : goal.returns
 returns c =
     let d = c.args.self.now in
-    let other : eqb c.args.raw.kind 10 ≡ false = ne_eqb c.args.raw.kind 10 (λ e. c.if-raw-kind_number.false (e ∙ sym c.kind_number.ensures)) in
+    let other : eqb c.args.raw.kind 10 ≡ false = ne_eqb c.args.raw.kind 10 (λ e. omega arith) in
     formula_taken c.args.principals c.args.at.0 (record_of c.args.raw) d.labels (nodes_of d.table) (nodes_of c.take_formula.new.table) (facts_of d.facts) c.take_formula.result
     c.in_default.is other c.take_formula.ensures
