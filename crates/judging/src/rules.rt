@@ -58,13 +58,24 @@ pub fn is_upward(rows: &Rows, atom: AtomNumber) -> bool
     row_is_closed(rows, atom)
 }
 
+// Whether the rows of all atoms are closed upward.
+pub fn atoms_are_upward(rows: &Rows) -> bool
+    ensures { Tells result ((a : ℕ) → Upward (frame_of rows.now) ((model_of rows.now).row a)) }
+{
+    let mut ok = true;
+    for atom in 0..MAX_ATOMS {
+        ok = ok & is_upward(rows, AtomNumber(atom));
+    }
+    ok
+}
+
 // The lowest atom whose row is not closed upward.
 pub fn first_open_row(rows: &Rows) -> Option<AtomNumber>
     ensures { OpenRow (model_of rows.now) result }
 {
-    for atom in 0..MAX_ATOMS {
-        if !is_upward(rows, AtomNumber(atom)) {
-            return Some(AtomNumber(atom));
+    for number in 0..MAX_ATOMS {
+        if !is_upward(rows, AtomNumber(number)) {
+            return Some(AtomNumber(number));
         }
     }
     None

@@ -102,9 +102,11 @@ mod tests {
     fn atoms_hold_upward(rt: HostRuntime) -> Result<(), Fail> {
         let mut rows = chain()?;
         rows.set_atom(AtomNumber(5), WorldSet(2));
+        assert!(rt; atoms_are_upward(&rows));
         assert!(rt; first_open_row(&rows).is_none());
         rows.set_atom(AtomNumber(5), WorldSet(1));
         assert!(rt; !is_upward(&rows, AtomNumber(5)) & is_upward(&rows, AtomNumber(4)));
+        assert!(rt; !atoms_are_upward(&rows));
         let Some(AtomNumber(5)) = first_open_row(&rows) else {
             return Err(Fail::new("the row of atom 5"));
         };
