@@ -1,20 +1,18 @@
 -- Which records give which entries. Assumes nothing.
-use Rattle.std.proofs.Common.{◌≡◌, ℕ, Bool, true, false, cond, ◌||◌, eqb, ◌⊎◌, List, [], ◌∷◌, ◌++◌, length, is_some, is_err, Some, None, Ok, Err, Option, Result, unwrap_or, sym, refl, ap, ◌∙◌, subst, inl, inr, ⊎_elim}
-use Rattle.std.proofs.lemmas.Bool.{eqb-true, eq-eqb, cond-true, cond-false, cases_Bool, or_parts, or_from, true≢false}
-use Rattle.std.specs.Option.{option_or}
+use Rattle.std.proofs.Common.{◌≡◌, ℕ, Bool, true, false, cond, eqb, ◌⊎◌, List, length, is_err, Some, None, Ok, Err, Option, Result, sym, refl, ap, ◌∙◌, subst, inl, inr, ⊎_elim}
+use Rattle.std.proofs.lemmas.Bool.{eqb-true, eq-eqb, cond-true, true≢false}
 use Rattle.records.specs.declared.numbers.RecordNumber.{RecordNumber}
 use Rattle.records.specs.declared.numbers.WorldCount.{WorldCount}
 use Rattle.records.specs.declared.refusal.Refusal.{Refusal}
 use Rattle.records.specs.declared.refusal.Refusal.TheVariants.{Kind, OutOfRange, Frame}
 use Rattle.records.specs.Chains.{Record}
 use Rattle.records.specs.Kinds.{decoded}
-use Rattle.kinds.specs.declared.rows.EndsRow.{EndsRow}
 use Rattle.kinds.specs.Contents.{world_count_of, above_of, ends_of, atom_row_of, place_of}
 use Rattle.logic.specs.declared.terms.Modality.{Modality}
-use Rattle.logic.specs.Modalities.{modality_number, numbered_modality}
+use Rattle.logic.specs.Modalities.{numbered_modality}
 use Rattle.logic.proofs.Numbers.{numbers_name}
 use Rattle.sketches.specs.declared.entry.Entry.{Entry}
-use Rattle.sketches.specs.declared.entry.Entry.TheVariants.{Above, Ends, Atom, Place}
+use Rattle.sketches.specs.declared.entry.Entry.TheVariants.{Above, Atom, Place}
 use Rattle.sketches.specs.Entries.{onward, ends_named, entry_of, worlds_fit, count_of, worlds_at}
 use Rattle.sketches.specs.Laws.{rec, EntryRecord, above, ends, atom, place}
 

@@ -1,15 +1,14 @@
 -- What a sketch is where the file ends. Assumes nothing.
-use Rattle.std.proofs.Common.{◌≡◌, ℕ, ◌<◌, List, is_some, Some, None, Ok, Err, Option, Result, unwrap_or, sym, refl, ap, ◌∙◌, subst}
-use Rattle.std.specs.Option.{option_or}
+use Rattle.std.proofs.Common.{◌≡◌, ℕ, ◌<◌, List, Some, None, Option, unwrap_or, sym, refl, ap, ◌∙◌, subst}
 use Rattle.records.specs.declared.numbers.Label.{Label}
 use Rattle.records.specs.declared.numbers.World.{World}
 use Rattle.rows.specs.PlacesOf.{place_at, standing_of}
-use Rattle.rows.specs.RowsOf.{frame_of, model_of}
+use Rattle.rows.specs.RowsOf.{model_of}
 use Rattle.sketches.specs.declared.entry.Entry.{Entry}
 use Rattle.sketches.specs.declared.read.GivenModel.{GivenModel}
 use Rattle.sketches.specs.declared.sketch.Sketch.{Sketch}
-use Rattle.sketches.specs.Described.{place_in, described, described_standing}
-use Rattle.sketches.specs.Readings.{Kept, placed, unplaced}
+use Rattle.sketches.specs.Described.{place_in, described}
+use Rattle.sketches.specs.Readings.{placed, unplaced}
 use Rattle.sketches.specs.Sketches.{Shows}
 use Rattle.sketches.specs.Answers.{IsGiven, StandsAt}
 use Rattle.sketches.proofs.Placings.{all_placed}
@@ -40,7 +39,7 @@ standing_at P n W es s h none x low =
     }
 
 -- every label stands at a world: one that is not placed at world 0
-inside_at : (W : ℕ) (es : List Entry) (s : Sketch) → Shows W es s → (x : Label) → (standing_of s.places x).0 < s.rows.worlds
+pub inside_at : (W : ℕ) (es : List Entry) (s : Sketch) → Shows W es s → (x : Label) → (standing_of s.places x).0 < s.rows.worlds
 inside_at W es s h x = go (place_at s.places x) refl
   where
     go : (o : Option World) → place_at s.places x ≡ o → (standing_of s.places x).0 < s.rows.worlds
@@ -57,6 +56,6 @@ finished_given P n W es s h none = record {
   places = h.place;
   standing = ap (λ p. λ (x : Label). unwrap_or (p x) (record { 0 = 0 })) (placings W es s h);
   stands = standing_at P n W es s h none;
-  inside = inside_at W es s h;
+  placed = λ x low. inside_at W es s h x;
   principals = refl;
 }

@@ -1,12 +1,11 @@
 -- A sketch that one entry is written into shows the entries with that one. Assumes nothing.
-use Rattle.std.proofs.Common.{◌≡◌, ℕ, ◌^◌, ◌<◌, ◌≤◌, Bool, true, false, cond, ◌&&◌, eqb, ltb, ◌⊎◌, List, [], ◌∷◌, ◌++◌, get_or, is_some, Some, None, Ok, Err, Option, Result, unwrap_or, sym, refl, ap, ◌∙◌, subst, inl, inr, ⊎_elim, arith}
+use Rattle.std.proofs.Common.{◌≡◌, ℕ, ◌^◌, ◌<◌, ◌≤◌, true, false, ◌&&◌, eqb, ltb, List, [], ◌∷◌, ◌++◌, get_or, is_some, Some, None, Ok, Err, unwrap_or, sym, refl, ap, ◌∙◌, subst, ⊎_elim, arith}
 use Rattle.std.proofs.lemmas.Bool.{and_parts, ltb-true, eq-eqb, ne_eqb, cond-true, cond-false, cases_eq, cases_Bool, both_ways}
 use Rattle.records.specs.declared.numbers.AtomNumber.{AtomNumber}
 use Rattle.records.specs.declared.numbers.Label.{Label}
 use Rattle.records.specs.declared.numbers.Principal.{Principal}
 use Rattle.records.specs.declared.numbers.World.{World}
-use Rattle.records.specs.declared.refusal.Refusal.{Refusal}
-use Rattle.records.specs.declared.refusal.Refusal.TheVariants.{OutOfRange, GivenTwice}
+use Rattle.records.specs.declared.refusal.Refusal.TheVariants.{GivenTwice}
 use Rattle.records.specs.Chains.{Record}
 use Rattle.logic.specs.declared.terms.Modality.{Modality}
 use Rattle.logic.specs.Modalities.{modality_number}
@@ -22,8 +21,8 @@ use Rattle.sketches.specs.declared.entry.Entry.TheVariants.{Above, Ends, Atom, P
 use Rattle.sketches.specs.declared.sketch.Sketch.{Sketch}
 use Rattle.sketches.specs.Entries.{onward, entry_of, fits_entry}
 use Rattle.sketches.specs.Described.{gives_above, gives_ends, gives_atom, gives_place, given, given_before, above_in, ends_in, atom_in, place_in}
-use Rattle.sketches.specs.Readings.{Stage, begun, numbered, with_entry, entered}
-use Rattle.sketches.specs.Sketches.{Shows, Written, Grown, Takes, marked, mark}
+use Rattle.sketches.specs.Readings.{begun, numbered, with_entry, entered}
+use Rattle.sketches.specs.Sketches.{Shows, Written, Grown, marked, mark}
 use Rattle.sketches.proofs.Given.{given_old, given_new, none_of, row_old, row_new, mark_old, mark_new, arrows_same, arrows_self, arrows_differ}
 
 -- rows that stay the same list show the same

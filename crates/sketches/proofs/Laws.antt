@@ -1,21 +1,19 @@
 -- A model file is taken exactly when its records are as they should be. Assumes nothing.
-use Rattle.std.proofs.Common.{◌≡◌, ℕ, zero, suc, ◌+◌, ◌<◌, Bool, true, false, cond, ◌||◌, ◌↔◌, List, [], ◌∷◌, ◌++◌, length, is_some, Some, None, Ok, Err, Option, Result, sym, refl, ap, ◌∙◌, subst, arith}
+use Rattle.std.proofs.Common.{◌≡◌, ℕ, ◌+◌, true, false, cond, ◌||◌, List, [], ◌∷◌, ◌++◌, length, is_some, Some, None, Ok, Err, Option, sym, refl, ap, ◌∙◌, subst}
 use Rattle.std.proofs.lemmas.Bool.{cond-true, cond-false, or_parts, or_from}
 use Rattle.std.specs.Option.{option_or}
 use Rattle.std.specs.List.{AllByRecursion as All}
 use Rattle.records.specs.declared.numbers.Label.{Label}
-use Rattle.records.specs.declared.numbers.World.{World}
-use Rattle.records.specs.declared.refusal.Refusal.{Refusal}
 use Rattle.records.specs.declared.refusal.Refusal.TheVariants.{OutOfRange, GivenTwice, EndsEarly, LabelUnplaced}
 use Rattle.records.specs.Chains.{Record, chain, broken_at}
-use Rattle.records.specs.Readers.{at_end, read_bytes, Reaches, here, on, ReadToEnd}
+use Rattle.records.specs.Readers.{at_end, read_bytes, Reaches, here, on}
 use Rattle.records.proofs.Readers.{reads_by}
 use Rattle.kinds.specs.Contents.{world_count_of}
 use Rattle.sketches.specs.declared.entry.Entry.{Entry}
 use Rattle.sketches.specs.declared.entry.Entry.TheVariants.{Above, Ends, Atom, Place}
 use Rattle.sketches.specs.Entries.{onward, entry_of, fits_entry, worlds_fit, worlds_at}
-use Rattle.sketches.specs.Described.{gives_above, gives_ends, gives_atom, gives_place, given, same_row, given_before, place_in}
-use Rattle.sketches.specs.Readings.{Stage, nothing, begun, Kept, numbered, label, with_entry, entries_at, entered, unplaced, placed, finished, model_reader}
+use Rattle.sketches.specs.Described.{gives_above, gives_ends, gives_atom, gives_place, given, given_before, place_in}
+use Rattle.sketches.specs.Readings.{Stage, nothing, begun, Kept, numbered, with_entry, entries_at, entered, unplaced, placed, model_reader}
 use Rattle.sketches.specs.Laws.{rec, EntryRecord, Apart, Entries, none, more, IsModelFile, ModelLaw}
 use Rattle.sketches.proofs.Entered.{ok_same, err_ok, onward_ok, cond_fits, cond_not, entry_record, record_entry, count_record, record_count}
 use Rattle.sketches.proofs.Placings.{all_placed, none_unplaced}

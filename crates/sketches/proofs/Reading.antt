@@ -1,5 +1,5 @@
 -- One record more of a model file, and its end. Assumes nothing.
-use Rattle.std.proofs.Common.{◌≡◌, ℕ, ◌+◌, List, [], Ok, Err, Result, sym, refl, ap, ◌∙◌, subst}
+use Rattle.std.proofs.Common.{◌≡◌, ℕ, ◌+◌, List, [], Ok, Err, Result, sym, ap, ◌∙◌, subst}
 use Rattle.records.specs.declared.refusal.Refusal.{Refusal}
 use Rattle.records.specs.Chains.{Record, front, whole, cut, broken_at}
 use Rattle.records.specs.Readers.{read_bytes}
@@ -7,8 +7,8 @@ use Rattle.records.proofs.Readers.{read_more, read_bad, read_end, read_broken}
 use Rattle.sketches.specs.declared.read.GivenModel.{GivenModel}
 use Rattle.sketches.specs.declared.sketch.Sketch.{Sketch}
 use Rattle.sketches.specs.Entries.{onward, worlds_at}
-use Rattle.sketches.specs.Readings.{Stage, nothing, begun, Kept, numbered, finished, model_reader}
-use Rattle.sketches.specs.Sketches.{Shows, Begins, Takes}
+use Rattle.sketches.specs.Readings.{Stage, nothing, begun, Kept, numbered, model_reader}
+use Rattle.sketches.specs.Sketches.{Begins, Takes}
 use Rattle.sketches.specs.Answers.{Answers, Finished, ReadTo, Started}
 
 module _ (P n i : ℕ) (bs : List ℕ) where

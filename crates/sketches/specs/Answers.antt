@@ -4,6 +4,7 @@ use Rattle.records.specs.declared.numbers.Label.{Label}
 use Rattle.records.specs.declared.numbers.World.{World}
 use Rattle.records.specs.declared.refusal.Refusal.{Refusal}
 use Rattle.records.specs.Readers.{read_bytes}
+use Rattle.logic.specs.Facts.{Placed}
 use Rattle.rows.specs.PlacesOf.{place_at, standing_of}
 use Rattle.rows.specs.RowsOf.{frame_of, model_of}
 use Rattle.sketches.specs.declared.entry.Entry.{Entry}
@@ -20,11 +21,7 @@ pub record StandsAt (g : GivenModel) (x : Label) : Type 0 where
   pub placed : place_at g.places x ≡ Some world
   pub in_worlds : world.0 < (frame_of g.rows).worlds
 
--- every label stands at a world of a model: one that is not placed at world 0
-abbrev pub Inside : GivenModel → Type 0
-Inside g = (x : Label) → (standing_of g.places x).0 < (frame_of g.rows).worlds
-
--- a model is the one that the world count and the entries of the answer describe; every label below n has a place, and every label stands at a world
+-- a model is the one that the world count and the entries of the answer describe, and every label below n stands at one of its worlds
 pub record IsGiven (P n : ℕ) (answer : Result Kept Refusal) (g : GivenModel) : Type 0 where
   pub kept : Kept
   pub answer_is : answer ≡ Ok kept
@@ -32,8 +29,12 @@ pub record IsGiven (P n : ℕ) (answer : Result Kept Refusal) (g : GivenModel) :
   pub places : (x : Label) → place_at g.places x ≡ place_in kept.entries x
   pub standing : standing_of g.places ≡ described_standing kept.entries
   pub stands : (x : Label) → x.0 < n → StandsAt g x
-  pub inside : Inside g
+  pub placed : Placed (frame_of g.rows) n (standing_of g.places)
   pub principals : g.principals ≡ P
+
+-- every label stands at a world of a model: one that is not placed at world 0
+abbrev pub Inside : GivenModel → Type 0
+Inside g = (x : Label) → (standing_of g.places x).0 < (frame_of g.rows).worlds
 
 -- the answer is this one
 abbrev pub Answers : ℕ → ℕ → Result Kept Refusal → Result GivenModel Refusal → Type 0

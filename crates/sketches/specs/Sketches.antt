@@ -1,13 +1,11 @@
 -- A model while it is read: what its rows and places show of the entries so far. Assumes nothing.
-use Rattle.std.specs.Prelude.{◌≡◌, ℕ, ◌<◌, Bool, List, [], is_some, Some, None, Ok, Err, Option, Result}
+use Rattle.std.specs.Prelude.{◌≡◌, ℕ, ◌<◌, Bool, List, [], is_some, Some, Ok, Err, Result}
 use Rattle.records.specs.declared.numbers.Label.{Label}
 use Rattle.records.specs.declared.numbers.World.{World}
 use Rattle.records.specs.declared.numbers.WorldCount.{WorldCount}
 use Rattle.records.specs.declared.refusal.Refusal.{Refusal}
 use Rattle.records.specs.Chains.{Record}
 use Rattle.logic.specs.declared.terms.Modality.{Modality}
-use Rattle.rows.specs.declared.places.Places.{Places}
-use Rattle.rows.specs.declared.rows.Rows.{Rows}
 use Rattle.rows.specs.declared.masks.WorldSet.{WorldSet}
 use Rattle.rows.specs.Masks.{bit}
 use Rattle.rows.specs.PlacesOf.{place_at, Put}

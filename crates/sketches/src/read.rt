@@ -1,10 +1,12 @@
 // A whole model file.
-ghost use Rattle.std.specs.Prelude.{◌≡◌, ℕ};
+ghost use Rattle.std.specs.Prelude.{◌≡◌, ℕ, List, IfOk};
 ghost use Rattle.records.specs.Files.{bytes_of};
 ghost use Rattle.rows.specs.PlacesOf.{place_at};
 ghost use Rattle.records.specs.Readers.{read_bytes};
 ghost use Rattle.sketches.specs.Readings.{unplaced, nothing, model_reader};
-ghost use Rattle.sketches.specs.Answers.{Finished, Started, ModelRead};
+ghost use Rattle.sketches.specs.declared.entry.Entry.{Entry};
+ghost use Rattle.sketches.specs.Sketches.{Shows};
+ghost use Rattle.sketches.specs.Answers.{Finished, Inside, Started, ModelRead};
 
 use crate::entry::Ranges;
 use crate::sketch::Sketch;
@@ -37,7 +39,8 @@ fn first_unplaced(places: &Places, labels: LabelCount) -> Option<Label>
 
 // The model that a sketch is where the file ends.
 fn finish(sketch: Sketch, ranges: Ranges) -> Result<GivenModel, Refusal>
-    ensures { Finished ranges.principals ranges.labels.0 sketch result }
+    ensures answer { Finished ranges.principals ranges.labels.0 sketch result }
+    ensures inside { (W : ℕ) (es : List Entry) → Shows W es sketch → IfOk result Inside }
 {
     match first_unplaced(&sketch.places, ranges.labels) {
         Some(label) => Err(Refusal::LabelUnplaced(label)),
@@ -65,7 +68,8 @@ fn begin(cursor: &mut Cursor) -> Result<Sketch, Refusal>
 
 // Reads a model file for a sequent of so many labels and for so many principals.
 pub fn read_model(file: File, labels: LabelCount, principals: u16) -> Result<GivenModel, Refusal>
-    ensures { ModelRead principals labels.0 (bytes_of file.entry) result }
+    ensures answer { ModelRead principals labels.0 (bytes_of file.entry) result }
+    ensures inside { IfOk result Inside }
 {
     let ranges = Ranges { principals, labels };
     let mut cursor = Cursor::new(file);

@@ -1,4 +1,4 @@
-use Rattle.std.proofs.Common.{◌≡◌, Ok, Err, sym, ap, ◌∙◌, subst}
+use Rattle.std.proofs.Common.{Ok, ap, subst}
 use Rattle.records.specs.Chains.{record_of}
 use Rattle.records.proofs.Chains.{next_at}
 use Rattle.sketches.specs.Entries.{worlds_at}

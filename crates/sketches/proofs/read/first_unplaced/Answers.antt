@@ -1,4 +1,4 @@
-use Rattle.std.proofs.Common.{◌≡◌, is_some, sym, ap, ◌∙◌, arith}
+use Rattle.std.proofs.Common.{is_some, sym, ap, ◌∙◌, arith}
 use Rattle.rows.specs.PlacesOf.{place_at}
 use Rattle.sketches.proofs.Placings.{unplaced_more, unplaced_first}
 use Rattle.sketches.proofs.read.first_unplaced.Goals as goal

@@ -1,4 +1,4 @@
-use Rattle.std.proofs.Common.{◌≡◌, Ok, Err, sym, ap, ◌∙◌, subst, arith}
+use Rattle.std.proofs.Common.{Ok, Err, sym, ap, ◌∙◌, subst, arith}
 use Rattle.records.specs.Chains.{record_of}
 use Rattle.records.specs.Files.{bytes_of}
 use Rattle.records.specs.Readers.{read_bytes}
@@ -6,13 +6,13 @@ use Rattle.records.proofs.Chains.{next_at}
 use Rattle.records.proofs.Fronts.{front_parts}
 use Rattle.sketches.specs.Readings.{nothing, model_reader}
 use Rattle.sketches.specs.Sketches.{Takes}
-use Rattle.sketches.specs.Answers.{Answers, ReadTo}
+use Rattle.sketches.specs.Answers.{ReadTo}
 use Rattle.sketches.proofs.Reading.{step_bad, step_on, step_end, step_broken}
 use Rattle.sketches.proofs.Laws.{model_law}
 use Rattle.sketches.proofs.read.read_model.Goals as goal
 
-pub returns-in-Err : goal.returns-in-Err
-returns-in-Err c =
+pub returns-in-Err-clause-answer : goal.returns-in-Err-clause-answer
+returns-in-Err-clause-answer c =
     let R = model_reader c.args.principals c.args.labels.0 in
     let new = c.new-cursor.ensures in
     record {
@@ -28,8 +28,8 @@ reading-init c =
     (λ j. read_bytes R (new.number j) nothing (new.rest j))
     (c.in-Ok.ensures c.args.principals c.args.labels.0)
 
-pub returns-in-Err-next : goal.returns-in-Err-next
-returns-in-Err-next c =
+pub returns-in-Err-next-clause-answer : goal.returns-in-Err-next-clause-answer
+returns-in-Err-next-clause-answer c =
     let R = model_reader c.args.principals c.args.labels.0 in
     let step = c.in-Err-next.ensures in
     record {
@@ -39,17 +39,22 @@ returns-in-Err-next c =
       law = model_law c.args.principals c.args.labels.0 (bytes_of c.args.file);
     }
 
-pub returns-in-None : goal.returns-in-None
-returns-in-None c =
+pub returns-in-None-clause-answer : goal.returns-in-None-clause-answer
+returns-in-None-clause-answer c =
     let R = model_reader c.args.principals c.args.labels.0 in
     let step = next_at c.reading.cursor.rest.now c.reading.cursor.number c.next.new.self.rest.now c.next.new.self.number (ap Ok c.in-None.is) c.in-Ok-next.ensures in
     record {
-      answer = step_end c.args.principals c.args.labels.0 c.reading.cursor.number c.reading.cursor.rest.now (read_bytes R 0 nothing (bytes_of c.args.file)) c.reading.sketch c.reading.invariant c.finish.result step.0 c.finish.ensures;
+      answer = step_end c.args.principals c.args.labels.0 c.reading.cursor.number c.reading.cursor.rest.now (read_bytes R 0 nothing (bytes_of c.args.file)) c.reading.sketch c.reading.invariant c.finish.result step.0 c.finish.ensures.answer;
       law = model_law c.args.principals c.args.labels.0 (bytes_of c.args.file);
     }
 
-pub returns-in-Err-take : goal.returns-in-Err-take
-returns-in-Err-take c =
+pub returns-in-None-clause-inside : goal.returns-in-None-clause-inside
+returns-in-None-clause-inside c =
+    let so_far = c.reading.invariant in
+    c.finish.ensures.inside so_far.worlds so_far.entries so_far.shows
+
+pub returns-in-Err-take-clause-answer : goal.returns-in-Err-take-clause-answer
+returns-in-Err-take-clause-answer c =
     let R = model_reader c.args.principals c.args.labels.0 in
     let q = record_of c.in-Some.raw in
     let step = next_at c.reading.cursor.rest.now c.reading.cursor.number c.next.new.self.rest.now c.next.new.self.number (ap Ok c.in-Some.is) c.in-Ok-next.ensures in

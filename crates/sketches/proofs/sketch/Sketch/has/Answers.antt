@@ -1,4 +1,4 @@
-use Rattle.std.proofs.Common.{◌≡◌, sym, ap, ◌∙◌, arith}
+use Rattle.std.proofs.Common.{sym, ap, ◌∙◌, arith}
 use Rattle.sketches.specs.Sketches.{marked}
 use Rattle.sketches.proofs.sketch.Sketch.has.Goals as goal
 

@@ -5,8 +5,8 @@ use Rattle.sketches.proofs.sketch.Sketch.new.Goals as goal
 
 pub returns : goal.returns
 returns c =
-    let rows = c.in-ok-rows.ensures in
-    let marks = c.in-ok-given.ensures in
+    let rows = c.in_ok-rows.ensures in
+    let marks = c.in_ok-given.ensures in
     record {
       worlds = rows.worlds;
       above = λ x y. rows.above x y ∙ sym (bit_zero y);
