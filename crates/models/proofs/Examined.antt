@@ -1,8 +1,8 @@
 -- The answer to a model file, from how it is read and how its model is judged. Assumes nothing.
-use Rattle.std.proofs.Common.{◌≡◌, ℕ, ◌↔◌, List, Ok, Err, Result, sym, refl, ap, ◌∙◌, subst, arith}
+use Rattle.std.proofs.Common.{◌≡◌, ℕ, List, Ok, Err, Result, ap, ◌∙◌, subst, arith}
 use Rattle.records.specs.declared.refusal.Refusal.{Refusal}
 use Rattle.records.specs.Readers.{read_bytes}
-use Rattle.logic.specs.Facts.{Sequent, Standing, FailsUnder, Fails}
+use Rattle.logic.specs.Facts.{Sequent, Standing, FailsUnder}
 use Rattle.logic.specs.Models.{Model}
 use Rattle.piles.specs.Packs.{Condition, Admits}
 use Rattle.rows.specs.PlacesOf.{standing_of}
@@ -12,7 +12,7 @@ use Rattle.sketches.specs.Readings.{Kept, nothing, model_reader}
 use Rattle.sketches.specs.Laws.{IsModelFile, ModelLaw}
 use Rattle.sketches.specs.Answers.{Inside, IsGiven}
 use Rattle.models.specs.Judgements.{Answer, Refuses, Judgement}
-use Rattle.models.specs.Examined.{model_in, standing_in, Refutes, RefusesFile, Examined, unread, judged}
+use Rattle.models.specs.Examined.{model_in, standing_in, RefusesFile, Examined, unread, judged}
 
 module _ (cs : List Condition) (P : ℕ) (s : Sequent) (bytes : List ℕ) (law : ModelLaw P s.labels bytes) where
   -- how the bytes are read
@@ -59,10 +59,10 @@ module _ (cs : List Condition) (P : ℕ) (s : Sequent) (bytes : List ℕ) (law :
       back d (unread g) = let z : ◌≡◌ {A = ℕ} 0 1 = cc in absurd (omega arith)
       back d (judged l f c) = (j.refused d).1 (subst (λ (x : Kept). Refuses cs P s (model_in x) (standing_in x) d) (one_described k l h f) c)
 
-  pub examined_given : (g : GivenModel) → IsGiven P s.labels read g → (r : Answer)
+  pub examined_given : (g : GivenModel) → IsGiven P s.labels read g → Inside g → (r : Answer)
       → (Inside g → Judgement cs g.principals s (model_of g.rows) (standing_of g.places) r) → Examined cs P s bytes r
-  examined_given g is r j =
+  examined_given g is inside r j =
       examined_kept is.kept is.answer_is r
       (subst (λ (σ : Standing). Judgement cs P s (model_in is.kept) σ r) is.standing
       (subst (λ (m : Model). Judgement cs P s m (standing_of g.places) r) is.model
-      (subst (λ (n : ℕ). Judgement cs n s (model_of g.rows) (standing_of g.places) r) is.principals (j is.inside))))
+      (subst (λ (n : ℕ). Judgement cs n s (model_of g.rows) (standing_of g.places) r) is.principals (j inside))))

@@ -1,5 +1,5 @@
 -- Each model has exactly one answer. Assumes nothing.
-use Rattle.std.proofs.Common.{◌≡◌, ℕ, zero, suc, ◌<◌, ◌≤◌, min, Bool, true, false, not, T, ◌⊎◌, ◌↔◌, List, [], ◌∷◌, Some, None, Ok, Err, sym, refl, ap, ◌∙◌, subst, inl, inr, ⊎_elim, arith}
+use Rattle.std.proofs.Common.{◌≡◌, ℕ, zero, suc, ◌<◌, ◌≤◌, min, Bool, true, false, not, T, List, [], ◌∷◌, Some, None, Ok, Err, sym, refl, ap, ◌∙◌, subst, ⊎_elim, arith}
 use Rattle.std.proofs.lemmas.Bool.{cases_lt}
 use Rattle.std.specs.List.{AllByRecursion as All}
 use Rattle.records.specs.declared.numbers.AtomNumber.{AtomNumber}
@@ -13,7 +13,7 @@ use Rattle.logic.specs.ModelRules.{Regular}
 use Rattle.piles.specs.Packs.{Condition, Meets, FirstFails, Judged, Admits}
 use Rattle.judging.specs.Tests.{Tells, LowestOpen, OpenRow}
 use Rattle.models.specs.Firsts.{FirstNot, FirstNotOf}
-use Rattle.models.specs.Judgements.{Answer, Refuses, Judgement, order_broken, row_open, condition_fails, does_not_falsify}
+use Rattle.models.specs.Judgements.{Refuses, Judgement, order_broken, row_open, condition_fails, does_not_falsify}
 
 pass_and_fail : (b : Bool) → T b → T (not b) → ⊥
 pass_and_fail true t f = f

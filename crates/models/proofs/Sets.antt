@@ -1,17 +1,17 @@
 -- Where the formulas of a table hold, one after the other. Assumes nothing.
-use Rattle.std.proofs.Common.{◌≡◌, ℕ, ◌+◌, ◌^◌, ◌<◌, ◌≤◌, Bool, true, false, cond, ltb, ◌≢◌, ◌⊎◌, List, [], length, get_or, set, replicate, Some, None, Option, sym, refl, ap, ◌∙◌, subst, inl, inr, ⊎_elim, not-suc-le-zero, arith, length-set, get_or-set_other, get_or-set_same, pow_pos}
+use Rattle.std.proofs.Common.{◌≡◌, ℕ, ◌+◌, ◌<◌, ◌≤◌, Bool, true, false, cond, ltb, ◌≢◌, ◌⊎◌, List, [], length, get_or, set, replicate, Some, None, sym, refl, ap, ◌∙◌, subst, inl, inr, ⊎_elim, not-suc-le-zero, arith, length-set, get_or-set_other, get_or-set_same, pow_pos}
 use Rattle.std.proofs.lemmas.List.{get_or_past, length-replicate}
 use Rattle.std.proofs.lemmas.Bool.{cases_lt, ltb-true, lt-ltb}
 use Rattle.records.specs.declared.numbers.FormulaNumber.{FormulaNumber}
 use Rattle.logic.specs.declared.terms.Node.{Node}
 use Rattle.logic.specs.declared.terms.Node.TheVariants.{Falsity}
 use Rattle.logic.specs.Formulas.{tree, trees, node_map, made, all_fall}
-use Rattle.logic.specs.Models.{Formula, Model, falsity, holds}
+use Rattle.logic.specs.Models.{Formula, Model, falsity}
 use Rattle.logic.specs.Tables.{node_at}
 use Rattle.logic.proofs.Falling.{fall_at}
 use Rattle.logic.proofs.Trees.{tree_is, length_grow}
 use Rattle.rows.specs.declared.masks.WorldSet.{WorldSet}
-use Rattle.rows.specs.Masks.{Mask, no_set}
+use Rattle.rows.specs.Masks.{no_set}
 use Rattle.rows.proofs.Bits.{bit_zero}
 use Rattle.rows.proofs.Blank.{of_repeat}
 use Rattle.judging.specs.Truths.{Truth, Carried}

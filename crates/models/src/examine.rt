@@ -20,7 +20,7 @@ pub fn examine_model<K: Pack>(
     pile: &K,
     principals: u16,
 ) -> Result<(), Refusal>
-    ensures { Examined (conditions pile.now) principals (sequent_of (nodes_of table.now) sequent.now) (bytes_of file.entry) result }
+    ensures { Examined (K.conditions pile.now) principals (sequent_of (nodes_of table.now) sequent.now) (bytes_of file.entry) result }
 {
     match read_model(file, sequent.labels, principals) {
         Err(refusal) => Err(refusal),

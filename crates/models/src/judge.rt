@@ -30,7 +30,7 @@ fn is_regular(model: &GivenModel) -> bool
 
 // The place of the first condition of the pile that fails.
 fn failing_condition<K: Pack>(model: &GivenModel, pile: &K) -> Option<ConditionPlace>
-    ensures { Judged (conditions pile.now) model.now.principals (frame_of model.now.rows) result }
+    ensures { Judged (K.conditions pile.now) model.now.principals (frame_of model.now.rows) result }
 {
     pile.judge(&model.rows, model.principals)
 }
@@ -50,7 +50,7 @@ pub fn judge_model<K: Pack>(
     sequent: &Sequent,
     pile: &K,
 ) -> Result<(), Refusal>
-    ensures { Inside model.now → Judgement (conditions pile.now) model.now.principals (sequent_of (nodes_of table.now) sequent.now) (model_of model.now.rows) (standing_of model.now.places) result }
+    ensures { Inside model.now → Judgement (K.conditions pile.now) model.now.principals (sequent_of (nodes_of table.now) sequent.now) (model_of model.now.rows) (standing_of model.now.places) result }
 {
     if !is_regular(model) {
         return Err(Refusal::OrderBroken);

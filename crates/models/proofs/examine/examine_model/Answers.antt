@@ -8,10 +8,10 @@ pub returns-in-Err : goal.returns-in-Err
 returns-in-Err g c =
     let read = c.in-Err.ensures in
     examined_unread (g.K.Pack.conditions c.args.pile.now) c.args.principals (sequent_of (nodes_of c.args.table.now) c.args.sequent.now) (bytes_of c.args.file)
-    read.law c.in-Err.refusal read.answer
+    read.answer.law c.in-Err.refusal read.answer.answer
 
 pub returns-in-Ok : goal.returns-in-Ok
 returns-in-Ok g c =
     let read = c.in-Ok.ensures in
     examined_given (g.K.Pack.conditions c.args.pile.now) c.args.principals (sequent_of (nodes_of c.args.table.now) c.args.sequent.now) (bytes_of c.args.file)
-    read.law c.in-Ok.model read.answer c.judge_model.result c.judge_model.ensures
+    read.answer.law c.in-Ok.model read.answer.answer read.inside c.judge_model.result c.judge_model.ensures

@@ -15,14 +15,14 @@ returns-then-not-fact_falsifies c = λ ns fs e t within.
     let m = c.args.model.now in
     let k = item_of fs c.args.facts.now c.loop-i.i _ e (omega arith) in
     fails (tree ns) (falsifies (model_of m.rows) (standing_of m.places)) fs c.loop-i.i k.view c.fact_falsifies.result k.there
-    (c.fact_falsifies.ensures ns k.view k.stored-as t within) (c.loop-i.invariant ns fs e t within) c.if-not-fact_falsifies.true
+    (c.fact_falsifies.ensures ns k.view k.stored_as t within) (c.loop-i.invariant ns fs e t within) c.if-not-fact_falsifies.true
 
 pub loop-i-preserved : goal.loop-i-preserved
 loop-i-preserved c = λ ns fs e t within.
     let m = c.args.model.now in
     let k = item_of fs c.args.facts.now c.loop-i.i _ e (omega arith) in
     passes (tree ns) (falsifies (model_of m.rows) (standing_of m.places)) fs c.loop-i.i k.view c.fact_falsifies.result k.there
-    (c.fact_falsifies.ensures ns k.view k.stored-as t within) (c.loop-i.invariant ns fs e t within) c.if-not-fact_falsifies.false
+    (c.fact_falsifies.ensures ns k.view k.stored_as t within) (c.loop-i.invariant ns fs e t within) c.if-not-fact_falsifies.false
 
 pub returns : goal.returns
 returns c = λ ns fs e t within.

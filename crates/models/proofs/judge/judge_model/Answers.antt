@@ -9,14 +9,14 @@ returns-in-Some g c within = judged_row _ _ _ _ _ c.is_regular.result c.is_regul
 
 pub returns-in-Some-failing_condition : goal.returns-in-Some-failing_condition
 returns-in-Some-failing_condition g c within =
-    judged_condition _ _ _ _ _ c.is_regular.result c.is_regular.ensures c.in-Some-failing_condition.place c.if-not-is_regular.false c.in-default.ensures c.in-Some-failing_condition.ensures
+    judged_condition _ _ _ _ _ c.is_regular.result c.is_regular.ensures c.in-Some-failing_condition.place c.if-not-is_regular.false c.in_default.ensures c.in-Some-failing_condition.ensures
 
 pub returns-in-Some-failing_fact : goal.returns-in-Some-failing_fact
 returns-in-Some-failing_fact g c within =
-    judged_fact _ _ _ _ _ c.is_regular.result c.is_regular.ensures c.in-Some-failing_fact.position c.if-not-is_regular.false c.in-default.ensures c.in-default-failing_condition.ensures
+    judged_fact _ _ _ _ _ c.is_regular.result c.is_regular.ensures c.in-Some-failing_fact.position c.if-not-is_regular.false c.in_default.ensures c.in_default-failing_condition.ensures
     (c.in-Some-failing_fact.ensures within)
 
 pub returns-in-None : goal.returns-in-None
 returns-in-None g c within =
-    judged_all _ _ _ _ _ c.is_regular.result c.is_regular.ensures c.if-not-is_regular.false c.in-default.ensures c.in-default-failing_condition.ensures
+    judged_all _ _ _ _ _ c.is_regular.result c.is_regular.ensures c.if-not-is_regular.false c.in_default.ensures c.in_default-failing_condition.ensures
     (c.in-None.ensures within) (λ x _. within x)
