@@ -1,6 +1,6 @@
 -- What the tests say in plain words. Assumes nothing.
 use Rattle.std.proofs.Common.{◌≡◌, ℕ, zero, suc, ◌<◌, Bool, true, false, not, ◌&&◌, ◌||◌, T, ◌⊎◌, ◌↔◌, List, [], ◌∷◌, sym, subst, inl, inr, arith}
-use Rattle.std.specs.List.{AllByRecursion as All}
+use Rattle.std.specs.List.{AllByRecursion}
 use Rattle.std.proofs.lemmas.Bool.{cases_eq}
 use Rattle.logic.specs.Models.{every, any, ◌⊃◌}
 use Rattle.logic.specs.Facts.{Exists}
@@ -82,12 +82,12 @@ and_three true false c t = absurd t
 and_three false b c t = absurd t
 
 -- not every element passes: some element fails
-pub some_fails : {X : Type 0} (p : X → Bool) (xs : List X) → (All (λ x. T (p x)) xs → ⊥) → Exists (λ x. T (not (p x))) xs
+pub some_fails : {X : Type 0} (p : X → Bool) (xs : List X) → (AllByRecursion (λ x. T (p x)) xs → ⊥) → Exists (λ x. T (not (p x))) xs
 some_fails p [] h = h tt
 some_fails p (x ∷ xs) h = elim (T_cases (p x)) [ inl t ↦ inr (some_fails p xs (λ a. h (t, a))) | inr t ↦ inl t ]
 
 -- .. and the other way
-pub not_all : {X : Type 0} (p : X → Bool) (xs : List X) → Exists (λ x. T (not (p x))) xs → All (λ x. T (p x)) xs → ⊥
+pub not_all : {X : Type 0} (p : X → Bool) (xs : List X) → Exists (λ x. T (not (p x))) xs → AllByRecursion (λ x. T (p x)) xs → ⊥
 not_all p [] s a = s
 not_all p (x ∷ xs) (inl t) a = (T_not (p x)).0 t a.0
 not_all p (x ∷ xs) (inr s) a = not_all p xs s a.1

@@ -1,6 +1,6 @@
 -- Stored facts. Assumes nothing.
 use Rattle.std.proofs.Common.{◌≡◌, ℕ, ◌↔◌, Some, None, sym, refl, ap, ◌∙◌, subst, arith}
-use Rattle.std.specs.List.{AllByRecursion as All}
+use Rattle.std.specs.List.{AllByRecursion}
 use Rattle.records.specs.declared.numbers.FormulaNumber.{FormulaNumber}
 use Rattle.logic.specs.declared.terms.Link.TheVariants.{Order, Arrow}
 use Rattle.logic.specs.declared.terms.FactView.{FactView}
@@ -51,9 +51,9 @@ blank_by f s a x y g =
     ∙ ap (λ (v : ℕ). by Blank 0 0 0 v) g
 
 -- the blank fact is the one whose numbers are all 0
-zeros : (f : Fact) → (f ≡ no_fact) ↔ All (λ n. n ≡ 0) (fact_numbers f)
+zeros : (f : Fact) → (f ≡ no_fact) ↔ AllByRecursion (λ n. n ≡ 0) (fact_numbers f)
 zeros f = (
-  λ e. subst (λ (g : Fact). All (λ n. n ≡ 0) (fact_numbers g)) (sym e) (refl, (refl, (refl, (refl, (refl, (refl, tt)))))),
+  λ e. subst (λ (g : Fact). AllByRecursion (λ n. n ≡ 0) (fact_numbers g)) (sym e) (refl, (refl, (refl, (refl, (refl, (refl, tt)))))),
   λ h. blank_by f (no_sort f.sort h.0) h.1.1.0 h.1.1.1.0 h.1.1.1.1.0 h.1.1.1.1.1.0,
 )
 

@@ -1,6 +1,6 @@
 -- A search through all standings of a sequent's labels. Assumes nothing.
 use Rattle.std.proofs.Common.{◌≡◌, ℕ, zero, suc, ◌<◌, ◌≤◌, Bool, cond, not, T, eqb, ◌⊎◌, List, [], ◌∷◌, sym, refl, ap, ◌∙◌, subst, ap₂, inl, inr, arith}
-use Rattle.std.specs.List.{AllByRecursion as All}
+use Rattle.std.specs.List.{AllByRecursion}
 use Rattle.std.proofs.lemmas.Bool.{eq-eqb, ne_eqb, cases_eq}
 use Rattle.records.specs.declared.numbers.Label.{Label}
 use Rattle.logic.specs.declared.terms.Link.{Link}
@@ -54,18 +54,18 @@ falsifies_same m n σ τ agree (Right x f) h = ap (λ (u : ℕ). not (holds m f 
 falsifies_same m n σ τ agree (Linked l) h = linked_same m.frame n σ τ agree l h
 
 -- so a standing that some fact does not falsify tells the same of each that agrees with it
-exists_same : (m : Model) (n : ℕ) (σ τ : Standing) → Agree 0 n σ τ → (facts : List (FactView Formula)) → All (FactLabels n) facts
+exists_same : (m : Model) (n : ℕ) (σ τ : Standing) → Agree 0 n σ τ → (facts : List (FactView Formula)) → AllByRecursion (FactLabels n) facts
     → Exists (λ fact. T (not (falsifies m σ fact))) facts → Exists (λ fact. T (not (falsifies m τ fact))) facts
 exists_same m n σ τ agree [] h e = e
 exists_same m n σ τ agree (fact ∷ facts) h (inl t) = inl (subst (λ (b : Bool). T (not b)) (sym (falsifies_same m n σ τ agree fact h.0)) t)
 exists_same m n σ τ agree (fact ∷ facts) h (inr e) = inr (exists_same m n σ τ agree facts h.1 e)
 
 -- every element passes, or some fails
-all_or_some : {X : Type 0} (p : X → Bool) (xs : List X) → All (λ x. T (p x)) xs ⊎ Exists (λ x. T (not (p x))) xs
+all_or_some : {X : Type 0} (p : X → Bool) (xs : List X) → AllByRecursion (λ x. T (p x)) xs ⊎ Exists (λ x. T (not (p x))) xs
 all_or_some p [] = inl tt
 all_or_some p (x ∷ xs) = go (T_cases (p x)) (all_or_some p xs)
   where
-    go : T (p x) ⊎ T (not (p x)) → All (λ y. T (p y)) xs ⊎ Exists (λ y. T (not (p y))) xs → All (λ y. T (p y)) (x ∷ xs) ⊎ Exists (λ y. T (not (p y))) (x ∷ xs)
+    go : T (p x) ⊎ T (not (p x)) → AllByRecursion (λ y. T (p y)) xs ⊎ Exists (λ y. T (not (p y))) xs → AllByRecursion (λ y. T (p y)) (x ∷ xs) ⊎ Exists (λ y. T (not (p y))) (x ∷ xs)
     go (inl t) (inl a) = inl (t, a)
     go (inl t) (inr e) = inr (inr e)
     go (inr t) others = inr (inl t)
@@ -73,7 +73,7 @@ all_or_some p (x ∷ xs) = go (T_cases (p x)) (all_or_some p xs)
 module _ (m : Model) (s : Sequent) (own : Labelled s) where
   -- the standing falsifies every fact
   abbrev Falsify : Standing → Type 0
-  Falsify τ = All (λ fact. T (falsifies m τ fact)) s.facts
+  Falsify τ = AllByRecursion (λ fact. T (falsifies m τ fact)) s.facts
 
   -- some fact does not falsify under the standing
   abbrev Escapes : Standing → Type 0

@@ -1,6 +1,6 @@
 -- Facts about labels, sequents, and when a sequent holds or fails in a model. Assumes nothing.
 use Rattle.std.specs.Prelude.{ℕ, ◌<◌, Bool, not, T, ◌⊎◌, List, [], ◌∷◌}
-use Rattle.std.specs.List.{AllByRecursion as All}
+use Rattle.std.specs.List.{AllByRecursion}
 use Rattle.records.specs.declared.numbers.Label.{Label}
 use Rattle.records.specs.declared.numbers.World.{World}
 use Rattle.logic.specs.declared.terms.Link.{Link}
@@ -56,7 +56,7 @@ Holds m s = (σ : Standing) → Placed m.frame s.labels σ → Exists (λ fact. 
 -- it fails under a standing of its labels: every fact falsifies
 pub record FailsUnder (m : Model) (s : Sequent) (σ : Standing) : Type 0 where
   pub placed : Placed m.frame s.labels σ
-  pub falsify : All (λ fact. T (falsifies m σ fact)) s.facts
+  pub falsify : AllByRecursion (λ fact. T (falsifies m σ fact)) s.facts
 
 -- it fails: under some standing
 abbrev pub Fails : Model → Sequent → Type 0
@@ -84,4 +84,4 @@ Scoped P n (Linked l) = LinkFits P n l
 
 -- a sequent speaks of its own labels and of principals below P
 abbrev pub WellScoped : ℕ → Sequent → Type 0
-WellScoped P s = All (Scoped P s.labels) s.facts
+WellScoped P s = AllByRecursion (Scoped P s.labels) s.facts

@@ -1,6 +1,6 @@
 -- A fact as it lies in lent slices: what it says, and its numbers. Assumes nothing.
 use Rattle.std.specs.Prelude.{◌≡◌, ℕ, ◌↔◌, List, [], ◌∷◌, Some, None, Option}
-use Rattle.std.specs.List.{AllByRecursion as All}
+use Rattle.std.specs.List.{AllByRecursion}
 use Rattle.records.specs.declared.numbers.FormulaNumber.{FormulaNumber}
 use Rattle.records.specs.declared.numbers.Label.{Label}
 use Rattle.records.specs.declared.numbers.Principal.{Principal}
@@ -67,4 +67,4 @@ fact_numbers f = sort_number f.sort ∷ arrow_number f.sort ∷ f.principal.0 �
 pub record FactsStored : Type 0 where
   pub told : (v : FactView FormulaNumber) → view_of (stored v) ≡ Some v
   pub untold : (f : Fact) → (view_of f ≡ None) ↔ (f.sort ≡ Blank)
-  pub zeros : (f : Fact) → (f ≡ no_fact) ↔ All (λ n. n ≡ 0) (fact_numbers f)
+  pub zeros : (f : Fact) → (f ≡ no_fact) ↔ AllByRecursion (λ n. n ≡ 0) (fact_numbers f)

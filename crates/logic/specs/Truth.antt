@@ -1,6 +1,6 @@
 -- What is shown of truth at a world, of sequents and of modality numbers, as statements. Assumes nothing.
 use Rattle.std.specs.Prelude.{◌≡◌, ℕ, ◌<◌, not, T, ◌⊎◌, ◌↔◌, Some}
-use Rattle.std.specs.List.{AllByRecursion as All}
+use Rattle.std.specs.List.{AllByRecursion}
 use Rattle.logic.specs.declared.terms.Modality.{Modality}
 use Rattle.logic.specs.declared.terms.Modality.TheVariants.{Permitted}
 use Rattle.logic.specs.declared.terms.Link.{Link}
@@ -50,7 +50,7 @@ FactLabels n (Linked l) = LinkLabels n l
 
 -- the facts of a sequent use only its own labels
 abbrev pub Labelled : Sequent → Type 0
-Labelled s = All (FactLabels s.labels) s.facts
+Labelled s = AllByRecursion (FactLabels s.labels) s.facts
 
 -- a sequent never both holds and fails in a model; one that uses only its own labels does one of the two
 pub record ExactlyOne : Type 0 where

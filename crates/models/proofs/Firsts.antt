@@ -1,6 +1,6 @@
 -- The first fact of a list that fails a test, found one by one. Assumes nothing.
 use Rattle.std.proofs.Common.{◌≡◌, ℕ, zero, suc, ◌+◌, ◌<◌, Bool, true, false, not, T, List, [], ◌∷◌, map, length, get_or, take, Some, sym, refl, ap, ◌∙◌, subst, le_of_suc-le-suc, not-suc-le-zero, add-one, arith}
-use Rattle.std.specs.List.{slice_get, AllByRecursion as All}
+use Rattle.std.specs.List.{slice_get, AllByRecursion}
 use Rattle.records.specs.declared.numbers.FormulaNumber.{FormulaNumber}
 use Rattle.logic.specs.declared.fact.Fact.{Fact}
 use Rattle.logic.specs.declared.terms.FactView.{FactView}
@@ -10,13 +10,13 @@ use Rattle.logic.specs.Stored.{stored}
 use Rattle.models.specs.Firsts.{FirstNot}
 
 -- one element more that passes
-all_more : {X : Type 0} (P : X → Type 0) (xs : List X) (i : ℕ) (x : X) → slice_get xs i ≡ Some x → P x → All P (take i xs) → All P (take (suc i) xs)
+all_more : {X : Type 0} (P : X → Type 0) (xs : List X) (i : ℕ) (x : X) → slice_get xs i ≡ Some x → P x → AllByRecursion P (take i xs) → AllByRecursion P (take (suc i) xs)
 all_more P [] i x e h a = tt
 all_more P (y ∷ ys) zero x e h a = let s : x ≡ y = cc in (subst P s h, tt)
 all_more P (y ∷ ys) (suc i) x e h a = (a.0, all_more P ys i x e h a.1)
 
 -- the first that fails
-first_at : {X : Type 0} (p : X → Bool) (xs : List X) (i : ℕ) (x : X) → slice_get xs i ≡ Some x → T (not (p x)) → All (λ y. T (p y)) (take i xs) → FirstNot p xs i
+first_at : {X : Type 0} (p : X → Bool) (xs : List X) (i : ℕ) (x : X) → slice_get xs i ≡ Some x → T (not (p x)) → AllByRecursion (λ y. T (p y)) (take i xs) → FirstNot p xs i
 first_at p [] i x e h a = let z : ◌≡◌ {A = ℕ} 0 1 = cc in absurd (omega arith)
 first_at p (y ∷ ys) zero x e h a = let s : x ≡ y = cc in subst (λ z. T (not (p z))) s h
 first_at p (y ∷ ys) (suc i) x e h a = (a.0, first_at p ys i x e h a.1)
@@ -50,9 +50,9 @@ length_facts t [] = refl
 length_facts t (f ∷ fs) = ap suc (length_facts t fs)
 
 module _ (t : FormulaNumber → Formula) (p : FactView Formula → Bool) (fs : List (FactView FormulaNumber)) (i : ℕ) (v : FactView FormulaNumber) (r : Bool)
-    (there : slice_get fs i ≡ Some v) (is : r ≡ p (fact_map t v)) (before : All (λ f. T (p f)) (take i (facts_map t fs))) where
+    (there : slice_get fs i ≡ Some v) (is : r ≡ p (fact_map t v)) (before : AllByRecursion (λ f. T (p f)) (take i (facts_map t fs))) where
   -- the fact at i passes
-  pub passes : r ≡ true → All (λ f. T (p f)) (take (i + 1) (facts_map t fs))
+  pub passes : r ≡ true → AllByRecursion (λ f. T (p f)) (take (i + 1) (facts_map t fs))
   passes e =
       rw add-one
       (all_more (λ f. T (p f)) (facts_map t fs) i (fact_map t v) (nth_facts t fs i v there) (subst (λ (b : Bool). T b) (sym e ∙ is) tt) before)

@@ -1,7 +1,7 @@
 -- Each model has exactly one answer. Assumes nothing.
 use Rattle.std.proofs.Common.{◌≡◌, ℕ, zero, suc, ◌<◌, ◌≤◌, min, Bool, true, false, not, T, List, [], ◌∷◌, Some, None, Ok, Err, sym, refl, ap, ◌∙◌, subst, ⊎_elim, arith}
 use Rattle.std.proofs.lemmas.Bool.{cases_lt}
-use Rattle.std.specs.List.{AllByRecursion as All}
+use Rattle.std.specs.List.{AllByRecursion}
 use Rattle.records.specs.declared.numbers.AtomNumber.{AtomNumber}
 use Rattle.records.specs.declared.numbers.ConditionPlace.{ConditionPlace}
 use Rattle.records.specs.declared.numbers.FactPosition.{FactPosition}
@@ -20,7 +20,7 @@ pass_and_fail true t f = f
 pass_and_fail false t f = t
 
 -- an element that fails, where all pass
-not_and_all : {X : Type 0} (p : X → Bool) (xs : List X) (i : ℕ) → FirstNot p xs i → All (λ x. T (p x)) xs → ⊥
+not_and_all : {X : Type 0} (p : X → Bool) (xs : List X) (i : ℕ) → FirstNot p xs i → AllByRecursion (λ x. T (p x)) xs → ⊥
 not_and_all p [] i h a = h
 not_and_all p (x ∷ xs) zero h a = pass_and_fail (p x) a.0 h
 not_and_all p (x ∷ xs) (suc i) h a = not_and_all p xs i h.1 a.1

@@ -2,7 +2,7 @@
 use Rattle.std.proofs.Common.{◌≡◌, ℕ, ◌+◌, true, false, cond, ◌||◌, List, [], ◌∷◌, ◌++◌, length, is_some, Some, None, Ok, Err, Option, sym, refl, ap, ◌∙◌, subst}
 use Rattle.std.proofs.lemmas.Bool.{cond-true, cond-false, or_parts, or_from}
 use Rattle.std.specs.Option.{option_or}
-use Rattle.std.specs.List.{AllByRecursion as All}
+use Rattle.std.specs.List.{AllByRecursion}
 use Rattle.records.specs.declared.numbers.Label.{Label}
 use Rattle.records.specs.declared.refusal.Refusal.TheVariants.{OutOfRange, GivenTwice, EndsEarly, LabelUnplaced}
 use Rattle.records.specs.Chains.{Record, chain, broken_at}
@@ -23,13 +23,13 @@ some_or None p = refl
 some_or (Some x) p = refl
 
 -- a list gives something exactly when one of its entries does
-none_gives : {X : Type 0} (gives : Entry → Option X) (es : List Entry) → is_some (given gives es) ≡ false → All (λ d. is_some (gives d) ≡ false) es
+none_gives : {X : Type 0} (gives : Entry → Option X) (es : List Entry) → is_some (given gives es) ≡ false → AllByRecursion (λ d. is_some (gives d) ≡ false) es
 none_gives gives [] h = tt
 none_gives gives (d ∷ es) h =
     let both = or_parts (is_some (gives d)) (is_some (given gives es)) (sym (some_or (gives d) (given gives es)) ∙ h) in
     (both.0, none_gives gives es both.1)
 
-gives_none : {X : Type 0} (gives : Entry → Option X) (es : List Entry) → All (λ d. is_some (gives d) ≡ false) es → is_some (given gives es) ≡ false
+gives_none : {X : Type 0} (gives : Entry → Option X) (es : List Entry) → AllByRecursion (λ d. is_some (gives d) ≡ false) es → is_some (given gives es) ≡ false
 gives_none gives [] h = refl
 gives_none gives (d ∷ es) h = some_or (gives d) (given gives es) ∙ or_from (is_some (gives d)) (is_some (given gives es)) h.0 (gives_none gives es h.1)
 

@@ -1,6 +1,6 @@
 -- When a model file is taken, in terms of its records. Assumes nothing.
 use Rattle.std.specs.Prelude.{◌≡◌, ℕ, ◌<◌, true, false, ◌↔◌, List, [], ◌∷◌, ◌++◌, length, Some, Ok}
-use Rattle.std.specs.List.{AllByRecursion as All}
+use Rattle.std.specs.List.{AllByRecursion}
 use Rattle.records.specs.declared.numbers.Label.{Label}
 use Rattle.records.specs.declared.numbers.World.{World}
 use Rattle.records.specs.Chains.{Record, chain}
@@ -28,7 +28,7 @@ pub data EntryRecord : Record → Entry → Type 0 where
 
 -- an entry gives no row and no label's place that one of the others gives
 abbrev pub Apart : Entry → List Entry → Type 0
-Apart e es = All (λ d. same_row e d ≡ false) es
+Apart e es = AllByRecursion (λ d. same_row e d ≡ false) es
 
 -- records of entries, each in range and apart from those before it, take a list of entries to another
 pub data Entries (W P n : ℕ) : List Entry → List Record → List Entry → Type 0 where

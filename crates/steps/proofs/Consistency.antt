@@ -1,6 +1,6 @@
 -- No step closes a branch with no left formula and none but falsity on the right. Assumes nothing.
 use Rattle.std.proofs.Common.{◌≡◌, ℕ, zero, suc, List, [], ◌∷◌, ◌++◌, map, Some, Option, sym, refl, ap, ◌∙◌, subst, arith}
-use Rattle.std.specs.List.{slice_get, AllByRecursion as All}
+use Rattle.std.specs.List.{slice_get, AllByRecursion}
 use Rattle.std.proofs.ByRecursion.{All-append}
 use Rattle.records.specs.declared.numbers.FactPosition.{FactPosition}
 use Rattle.records.specs.Chains.{Record}
@@ -44,7 +44,7 @@ not_modal f k a g e v = let s : ◌≡◌ {A = Node Formula} Falsity (Modal k a 
 
 -- what is added supports nothing either, and nothing closes
 abbrev Weak : Growth Formula → Type 0
-Weak p = All Unsupported (listed p.facts)
+Weak p = AllByRecursion Unsupported (listed p.facts)
 
 abbrev Stays : Outcome Formula → Type 0
 Stays Closes = ⊥
@@ -76,12 +76,12 @@ module _ (E : Scene Formula) (sees : (f : Formula) → E.view f ≡ shape f) (we
   stays (pack_goes {q = q} h e) = pack_weak E.labels q
   stays (pack_forks {q = q} h e) = pack_weak E.labels q
 
-look_weak : (facts : List (FactView Formula)) → All Unsupported facts → (i : ℕ) (f : FactView Formula) → told Some (slice_get facts i) ≡ Some f → Unsupported f
+look_weak : (facts : List (FactView Formula)) → AllByRecursion Unsupported facts → (i : ℕ) (f : FactView Formula) → told Some (slice_get facts i) ≡ Some f → Unsupported f
 look_weak [] h i f e = never f e
 look_weak (g ∷ gs) h zero f e = let p : g ≡ f = cc in subst Unsupported p h.0
 look_weak (g ∷ gs) h (suc i) f e = look_weak gs h.1 i f e
 
-weak_laid : (xs : List (FactView Formula)) → All Unsupported xs → All Unsupported (map (λ v. v) xs)
+weak_laid : (xs : List (FactView Formula)) → AllByRecursion Unsupported xs → AllByRecursion Unsupported (map (λ v. v) xs)
 weak_laid [] h = tt
 weak_laid (x ∷ xs) h = (h.0, weak_laid xs h.1)
 
@@ -89,15 +89,15 @@ module _ (layouts : ℕ → Option Layout) (readings : Readings) (P trail waitin
   abbrev S : Setting (FactView Formula) Formula
   S = tree_setting layouts readings P trail waiting
 
-  on : (b : Branch (FactView Formula)) → All Unsupported b.facts → {step : Step} {o : Outcome Formula}
+  on : (b : Branch (FactView Formula)) → AllByRecursion Unsupported b.facts → {step : Step} {o : Outcome Formula}
       → Rule (record { at = λ i. told Some (slice_get b.facts i.0); view = shape; labels = b.labels; readings = readings; principals = P }) step o → Stays o
   on b weak rule = stays _ (λ f. refl) (λ i f e. look_weak b.facts weak i.0 f e) rule
 
-  grown_weak : (b : Branch (FactView Formula)) (p : Growth Formula) → All Unsupported b.facts → Weak p → All Unsupported (b.facts ++ map (λ v. v) (listed p.facts))
+  grown_weak : (b : Branch (FactView Formula)) (p : Growth Formula) → AllByRecursion Unsupported b.facts → Weak p → AllByRecursion Unsupported (b.facts ++ map (λ v. v) (listed p.facts))
   grown_weak b p weak w = All-append Unsupported b.facts (map (λ v. v) (listed p.facts)) weak (weak_laid (listed p.facts) w)
 
   -- such a branch has no closed derivation
-  pub never_closed : {w : ℕ} {b : Branch (FactView Formula)} {rs : List Record} → Closed S w b rs → All Unsupported b.facts → ⊥
+  pub never_closed : {w : ℕ} {b : Branch (FactView Formula)} {rs : List Record} → Closed S w b rs → AllByRecursion Unsupported b.facts → ⊥
   never_closed (leaf {b = b} r asks rule) weak = on b weak rule
   never_closed (grow {b = b} r p asks rule fit d) weak = never_closed d (grown_weak b p weak (on b weak rule))
   never_closed (fork {b = b} r p q asks rule fit fit' few d d') weak = never_closed d (grown_weak b p weak (on b weak rule))

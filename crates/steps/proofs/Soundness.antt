@@ -1,7 +1,7 @@
 -- Soundness: a standing that falsifies a branch goes on to some premise of every step, and no step closes the branch. Assumes nothing.
 use Rattle.std.proofs.Common.{◌≡◌, ℕ, zero, suc, ◌+◌, ◌<◌, ◌≤◌, Bool, true, false, cond, not, ◌||◌, T, eqb, ◌⊎◌, List, [], ◌∷◌, ◌++◌, map, Some, None, Option, sym, refl, ap, ◌∙◌, subst, inl, inr, arith}
 use mathlib.Core.Logic.{⊎_map}
-use Rattle.std.specs.List.{slice_get, AllByRecursion as All}
+use Rattle.std.specs.List.{slice_get, AllByRecursion}
 use Rattle.std.proofs.lemmas.Bool.{eq-eqb, ne_eqb, cases_eq, eqb-false, or_parts}
 use Rattle.std.proofs.ByRecursion.{All-append, All-weaker}
 use Rattle.records.specs.declared.numbers.FactPosition.{FactPosition}
@@ -171,7 +171,7 @@ module _ (P : ℕ) (m : Model) where
     standing : Standing
     agrees : (x : Label) → x.0 < n → standing x ≡ σ x
     placed : Placed m.frame (labels_after n p.opens) standing
-    added : All (Known (labels_after n p.opens) standing) (listed p.facts)
+    added : AllByRecursion (Known (labels_after n p.opens) standing) (listed p.facts)
 
   -- the standing goes on to some premise; so no step closes the branch
   abbrev Passes : ℕ → Standing → Outcome Formula → Type 0
@@ -191,11 +191,11 @@ module _ (P : ℕ) (m : Model) where
     (k.1.0, omega (arith, k.1.1), omega (arith, k.1.2)),
   )
 
-  all_laid : (Q : FactView Formula → Type 0) (xs : List (FactView Formula)) → All Q xs → All Q (map (λ v. v) xs)
+  all_laid : (Q : FactView Formula → Type 0) (xs : List (FactView Formula)) → AllByRecursion Q xs → AllByRecursion Q (map (λ v. v) xs)
   all_laid Q [] h = tt
   all_laid Q (x ∷ xs) h = (h.0, all_laid Q xs h.1)
 
-  known_next : (n : ℕ) (σ : Standing) (facts : List (FactView Formula)) (p : Growth Formula) → All (Known n σ) facts → (next : Next n σ p) → All (Known (labels_after n p.opens) next.standing) (facts ++ map (λ v. v) (listed p.facts))
+  known_next : (n : ℕ) (σ : Standing) (facts : List (FactView Formula)) (p : Growth Formula) → AllByRecursion (Known n σ) facts → (next : Next n σ p) → AllByRecursion (Known (labels_after n p.opens) next.standing) (facts ++ map (λ v. v) (listed p.facts))
   known_next n σ facts p known next =
       let l = labels_after n p.opens in
       All-append (Known l next.standing) facts (map (λ v. v) (listed p.facts))
@@ -204,11 +204,11 @@ module _ (P : ℕ) (m : Model) where
 
   module _ (n : ℕ) (σ : Standing) (placed : Placed m.frame n σ) where
     -- a premise that opens no label
-    kept : (facts : Few Formula) → All (Known n σ) (listed facts) → Next n σ (adds facts)
+    kept : (facts : Few Formula) → AllByRecursion (Known n σ) (listed facts) → Next n σ (adds facts)
     kept facts known = record { standing = σ; agrees = λ x h. refl; placed = placed; added = known }
 
     -- a premise that opens the label n, at the world w
-    opened : (facts : Few Formula) (w : World) → w.0 < m.frame.worlds → All (Known (n + 1) (extend σ n w)) (listed facts) → Next n σ (opens_with facts)
+    opened : (facts : Few Formula) (w : World) → w.0 < m.frame.worlds → AllByRecursion (Known (n + 1) (extend σ n w)) (listed facts) → Next n σ (opens_with facts)
     opened facts w h known = record { standing = extend σ n w; agrees = extend_old σ n w; placed = extend_placed m.frame σ n w placed h; added = known }
 
     pack_next : (q : Premise) → Opens m.frame σ n q → (U : Label → Type 0) → ((x : Label) → U x → x.0 < n + 1) → PremiseUses P U q → Next n σ (pack_adds n q)
@@ -380,7 +380,7 @@ module _ (P : ℕ) (m : Model) where
             ⊎_map (λ o. pack_next q o (Usable (operands_of s named) n) under f.1.0) (λ o. pack_next r o (Usable (operands_of s named) n) under f.1.1) f.0
 
 -- what is known of the fact at a position
-look_known : (Q : FactView Formula → Type 0) (facts : List (FactView Formula)) → All Q facts → (i : ℕ) (f : FactView Formula) → told Some (slice_get facts i) ≡ Some f → Q f
+look_known : (Q : FactView Formula → Type 0) (facts : List (FactView Formula)) → AllByRecursion Q facts → (i : ℕ) (f : FactView Formula) → told Some (slice_get facts i) ≡ Some f → Q f
 look_known Q [] h i f e = never f e
 look_known Q (g ∷ gs) h zero f e = let p : g ≡ f = cc in subst Q p h.0
 look_known Q (g ∷ gs) h (suc i) f e = look_known Q gs h.1 i f e
@@ -393,12 +393,12 @@ module _ (P : ℕ) (m : Model) (some_P : SomePrincipals P) (keeps : Keeps P m) (
   abbrev S : Setting (FactView Formula) Formula
   S = tree_setting layouts readings P trail waiting
 
-  steps_on : (b : Branch (FactView Formula)) (σ : Standing) → SomeLabels b.labels → Placed m.frame b.labels σ → All (Known P m b.labels σ) b.facts
+  steps_on : (b : Branch (FactView Formula)) (σ : Standing) → SomeLabels b.labels → Placed m.frame b.labels σ → AllByRecursion (Known P m b.labels σ) b.facts
       → {step : Step} {o : Outcome Formula} → Rule (record { at = λ i. told Some (slice_get b.facts i.0); view = shape; labels = b.labels; readings = readings; principals = P }) step o → Told layouts P b.labels step → Passes P m b.labels σ o
   steps_on b σ some placed known rule t =
       passes P m b.labels σ placed (λ i. told Some (slice_get b.facts i.0)) (λ i f e. look_known (Known P m b.labels σ) b.facts known i.0 f e) some some_P keeps layouts readings (pack_sound b.labels) (pack_scope b.labels) rule t
 
-  impossible : {w : ℕ} {b : Branch (FactView Formula)} {rs : List Record} → Closed S w b rs → (σ : Standing) → SomeLabels b.labels → Placed m.frame b.labels σ → All (Known P m b.labels σ) b.facts → ⊥
+  impossible : {w : ℕ} {b : Branch (FactView Formula)} {rs : List Record} → Closed S w b rs → (σ : Standing) → SomeLabels b.labels → Placed m.frame b.labels σ → AllByRecursion (Known P m b.labels σ) b.facts → ⊥
   impossible (leaf {b = b} {step = step} r asks rule) σ some placed known = steps_on b σ some placed known rule (step_told layouts P b.labels r (number 0) step (asks (number 0)))
   impossible (grow {b = b} {step = step} r p asks rule fit d) σ some placed known =
       let next = steps_on b σ some placed known rule (step_told layouts P b.labels r (number 0) step (asks (number 0))) in
@@ -410,7 +410,7 @@ module _ (P : ℕ) (m : Model) (some_P : SomePrincipals P) (keeps : Keeps P m) (
       ]
 
 -- the facts of a sequent under a standing that falsifies them all
-sequent_known : (P : ℕ) (m : Model) (n : ℕ) (σ : Standing) (facts : List (FactView Formula)) → All (Scoped P n) facts → All (λ fact. T (falsifies m σ fact)) facts → All (Known P m n σ) facts
+sequent_known : (P : ℕ) (m : Model) (n : ℕ) (σ : Standing) (facts : List (FactView Formula)) → AllByRecursion (Scoped P n) facts → AllByRecursion (λ fact. T (falsifies m σ fact)) facts → AllByRecursion (Known P m n σ) facts
 sequent_known P m n σ [] scoped all = tt
 sequent_known P m n σ (f ∷ fs) scoped all = ((all.0, scoped.0), sequent_known P m n σ fs scoped.1 all.1)
 

@@ -1,6 +1,6 @@
 -- What the answer to a derivation says of its sequent. Assumes nothing.
 use Rattle.std.specs.Prelude.{◌≡◌, ℕ, List, Some, Ok, Option}
-use Rattle.std.specs.List.{AllByRecursion as All}
+use Rattle.std.specs.List.{AllByRecursion}
 use Rattle.records.specs.declared.numbers.FormulaNumber.{FormulaNumber}
 use Rattle.logic.specs.declared.terms.FactView.{FactView}
 use Rattle.logic.specs.declared.terms.FactView.TheVariants.{Left, Right, Linked}
@@ -59,4 +59,4 @@ pub record Verdict (conditions : List Condition) (S : Setting (FactView Formula)
   -- what is taken holds in every model that the pile admits
   pub sound : r ≡ Ok tt → Proper S.principals s → Valid conditions S.principals s
   -- a sequent with no left formula, and none but falsity on the right, is not taken
-  pub consistent : r ≡ Ok tt → All Unsupported s.facts → ⊥
+  pub consistent : r ≡ Ok tt → AllByRecursion Unsupported s.facts → ⊥

@@ -1,6 +1,6 @@
 -- A branch that waits, as it lies in a lent slice, and its numbers. Assumes nothing.
 use Rattle.std.specs.Prelude.{◌≡◌, ℕ, ◌↔◌, List, [], ◌∷◌, ◌++◌, Some, None, Option}
-use Rattle.std.specs.List.{AllByRecursion as All}
+use Rattle.std.specs.List.{AllByRecursion}
 use Rattle.records.specs.declared.numbers.FormulaNumber.{FormulaNumber}
 use Rattle.logic.specs.declared.fact.Fact.{Fact}
 use Rattle.logic.specs.declared.terms.FactView.{FactView}
@@ -38,4 +38,4 @@ waiting_numbers w = w.trail ∷ w.labels ∷ (fact_numbers w.facts.first ++ (fac
 
 -- the blank one is the one whose numbers are all 0
 abbrev pub BlankIsZero : Type 0
-BlankIsZero = (w : Waiting) → (w ≡ no_waiting) ↔ All (λ n. n ≡ 0) (waiting_numbers w)
+BlankIsZero = (w : Waiting) → (w ≡ no_waiting) ↔ AllByRecursion (λ n. n ≡ 0) (waiting_numbers w)

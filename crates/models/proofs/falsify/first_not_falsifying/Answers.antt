@@ -1,5 +1,5 @@
 use Rattle.std.proofs.Common.{T, List, length, ap, subst, arith}
-use Rattle.std.specs.List.{AllByRecursion as All}
+use Rattle.std.specs.List.{AllByRecursion}
 use Rattle.std.proofs.lemmas.List.{take_all}
 use Rattle.logic.specs.declared.terms.FactView.{FactView}
 use Rattle.logic.specs.Facts.{falsifies, facts_map}
@@ -27,6 +27,6 @@ loop-i-preserved c = λ ns fs e t within.
 pub returns : goal.returns
 returns c = λ ns fs e t within.
     let m = c.args.model.now in
-    subst (λ (fs : List (FactView Formula)). All (λ f. T (falsifies (model_of m.rows) (standing_of m.places) f)) fs)
+    subst (λ (fs : List (FactView Formula)). AllByRecursion (λ f. T (falsifies (model_of m.rows) (standing_of m.places) f)) fs)
     (take_all c.loop-i.i (facts_map (tree ns) fs) (omega (arith, length_facts (tree ns) fs, ap length e)))
     (c.loop-i.invariant ns fs e t within)
