@@ -1,7 +1,7 @@
 -- The rows of the first records of a file. Assumes nothing.
 use Rattle.std.proofs.Common.{◌≡◌, ℕ, ◌+◌, ◌*◌, ◌<◌, ◌≤◌, List, [], ◌∷◌, ◌++◌, map, length, get_or, take, drop, vec_items, sym, refl, ap, ◌∙◌, subst, arith, length-append, take-append-drop}
 use lib.ListN.{length-map}
-use Rattle.std.proofs.lemmas.List.{map_push, map-append, length_push, length-take-le, take_more, take_all}
+use Rattle.std.proofs.lemmas.List.{map_push, map-append, length-take-le, take_more, take_all}
 use Rattle.records.specs.declared.record.RawRecord.{RawRecord}
 use Rattle.records.specs.Chains.{Record, record_of, Joined, none, more, chain, ending, OneChain}
 use Rattle.readings.specs.declared.kind.Sort.{Sort}

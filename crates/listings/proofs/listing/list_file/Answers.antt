@@ -9,14 +9,14 @@ use Rattle.listings.proofs.listing.list_file.Goals as goal
 
 pub end-taken-requires : goal.end-taken-requires
 end-taken-requires c =
-    let are : map record_of c.as_slice-raw-items.result.now ≡ (chain (bytes_of c.args.file)).records = ap (map record_of) c.as_slice-raw-items.ensures.value ∙ c.in-ok-chain.ensures.records in
-    let within = ends_within (bytes_of c.args.file) c.as_slice-raw-items.result.now c.loop-raw.raw-index c.records.result (vec_items c.loop-raw.rows) c.loop-raw.tally c.loop-raw.taken _ c.of-row.result c.args.file.short are c.in-ok-chain.ensures.law c.loop-raw-test.true c.loop-raw.invariant c.of-row.ensures in
+    let are : map record_of c.as_slice-raw-items.result.now ≡ (chain (bytes_of c.args.file)).records = ap (map record_of) c.as_slice-raw-items.ensures.value ∙ c.in_ok-chain.ensures.records in
+    let within = ends_within (bytes_of c.args.file) c.as_slice-raw-items.result.now c.loop-raw.raw-index c.records.result (vec_items c.loop-raw.rows) c.loop-raw.tally c.loop-raw.taken _ c.of-row.result c.args.file.short are c.in_ok-chain.ensures.law c.loop-raw-test.true c.loop-raw.invariant c.of-row.ensures in
     omega (arith, within)
 
 pub add-tally-requires : goal.add-tally-requires
 add-tally-requires c =
-    let are : map record_of c.as_slice-raw-items.result.now ≡ (chain (bytes_of c.args.file)).records = ap (map record_of) c.as_slice-raw-items.ensures.value ∙ c.in-ok-chain.ensures.records in
-    omega (arith, few_records (bytes_of c.args.file) c.as_slice-raw-items.result.now c.args.file.short are c.in-ok-chain.ensures.law, c.loop-raw-test.true, c.loop-raw.invariant.records_are)
+    let are : map record_of c.as_slice-raw-items.result.now ≡ (chain (bytes_of c.args.file)).records = ap (map record_of) c.as_slice-raw-items.ensures.value ∙ c.in_ok-chain.ensures.records in
+    omega (arith, few_records (bytes_of c.args.file) c.as_slice-raw-items.result.now c.args.file.short are c.in_ok-chain.ensures.law, c.loop-raw-test.true, c.loop-raw.invariant.records_are)
 
 pub loop-raw-preserved : goal.loop-raw-preserved
 loop-raw-preserved c =
@@ -28,5 +28,5 @@ loop-raw-preserved c =
 
 pub returns : goal.returns
 returns c =
-    let are : map record_of c.as_slice-raw-items.result.now ≡ (chain (bytes_of c.args.file)).records = ap (map record_of) c.as_slice-raw-items.ensures.value ∙ c.in-ok-chain.ensures.records in
-    listed (bytes_of c.args.file) c.as_slice-raw-items.result.now c.loop-raw.raw-index _ are c.in-ok-chain.ensures.law (omega arith) (omega arith) c.loop-raw.invariant (ap length c.bytes.ensures.value) c.in-ok-chain.ensures.ending_is
+    let are : map record_of c.as_slice-raw-items.result.now ≡ (chain (bytes_of c.args.file)).records = ap (map record_of) c.as_slice-raw-items.ensures.value ∙ c.in_ok-chain.ensures.records in
+    listed (bytes_of c.args.file) c.as_slice-raw-items.result.now c.loop-raw.raw-index _ are c.in_ok-chain.ensures.law (omega arith) (omega arith) c.loop-raw.invariant (ap length c.bytes.ensures.value) c.in_ok-chain.ensures.ending_is
