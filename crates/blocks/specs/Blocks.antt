@@ -1,9 +1,8 @@
 -- The blocks of the program's input. Assumes nothing.
-use Rattle.std.specs.Prelude.{◌≡◌, ℕ, Bool, true, false, cond, List, [], length, Some, None, Option, ◌==◌, ◌≢◌, nat_le}
-use Rattle.records.specs.Chains.{Record, Front, cut, whole, front}
+use Rattle.std.specs.Prelude.{◌≡◌, ℕ, Bool, true, cond, List, [], length, Some, None, Option, ◌==◌, ◌≢◌, nat_le}
+use Rattle.records.specs.Chains.{Record, whole, front}
 use Rattle.blocks.specs.declared.block.BlockKind.{BlockKind}
 use Rattle.blocks.specs.declared.block.BlockKind.TheVariants.{Open, Enter, Prove, Refute}
-use Rattle.blocks.specs.declared.block.Block.{Block}
 use Rattle.blocks.specs.declared.block.Next.{Next}
 use Rattle.blocks.specs.declared.block.Next.TheVariants.{End, Stop, Taken}
 

@@ -1,8 +1,8 @@
-use Rattle.std.proofs.Common.{◌≡◌, ◌+◌, [], ◌∷◌, ◌++◌, length, Ok, vec_items, sym, refl, ap, ◌∙◌, subst, arith}
+use Rattle.std.proofs.Common.{◌≡◌, [], ◌∷◌, ◌++◌, length, Ok, vec_items, sym, ap, subst, arith}
 use Rattle.std.proofs.ResultArms.{chosen}
 use Rattle.std.proofs.lemmas.List.{length_push}
 use Rattle.records.specs.Files.{bytes_of}
-use Rattle.records.specs.Chains.{record_of, front, cut}
+use Rattle.records.specs.Chains.{record_of, front}
 use Rattle.records.proofs.Fronts.{front_parts}
 use Rattle.records.proofs.Laws.{one_chain}
 use Rattle.records.proofs.Chains.{Read, read_more, read_all, ends_none, ends_broken, next_at}
