@@ -3,7 +3,7 @@ use Rattle.std.specs.Prelude.{◌≡◌, ℕ, cond, List, Some, None, codes, Opt
 use Rattle.readings.specs.declared.kind.Kind.{Kind}
 use Rattle.readings.specs.declared.kind.Kind.TheVariants.{Atom, Falsity, And, Or, Implies, Says, Controls, Ratified, Permitted, Labels, LeftFormula, RightFormula, Order, Arrow, Worlds, WorldsAbove, ArrowEnds, AtomRow, Place}
 use Rattle.readings.specs.declared.kind.Sort.{Sort}
-use Rattle.readings.specs.declared.kind.Sort.TheVariants.{Formula, Fact, Row, Unknown, WrongSize}
+use Rattle.readings.specs.declared.kind.Sort.TheVariants.{Formula, Fact, Row}
 
 -- a line of the table of kinds
 pub record Line : Type 0 where

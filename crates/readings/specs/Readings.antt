@@ -1,12 +1,10 @@
 -- How a record reads, by its kind and its body. Assumes nothing.
 use Rattle.std.specs.Prelude.{◌≡◌, ℕ, List, length, ◌≢◌}
 use Rattle.records.specs.declared.numbers.RecordNumber.{RecordNumber}
-use Rattle.records.specs.declared.refusal.Refusal.{Refusal}
 use Rattle.records.specs.declared.refusal.Refusal.TheVariants.{Frame}
 use Rattle.readings.specs.declared.kind.Kind.{Kind}
 use Rattle.readings.specs.declared.kind.Sort.{Sort}
 use Rattle.readings.specs.declared.kind.Sort.TheVariants as sort
-use Rattle.readings.specs.declared.fields.Fields.{Fields}
 use Rattle.readings.specs.declared.reading.Reading.{Reading}
 use Rattle.readings.specs.declared.reading.Reading.TheVariants.{Known, WrongSize, Unknown}
 use Rattle.readings.specs.Kinds.{number_of, size_of, sort_of}

@@ -7,6 +7,11 @@ ghost use Rattle.readings.specs.Readings.{ReadsAs, counted_as};
 
 use crate::fields::Fields;
 use crate::kind::{Kind, Sort};
+use kinds::facts::{ArrowFact, Labels, LeftFact, OrderFact, RightFact};
+use kinds::formulas::{
+    And, AtomFormula, Controls, Falsity, Implies, Or, Permitted, Ratified, Says,
+};
+use kinds::rows::{Above, AtomHolds, Ends, Stands, Worlds};
 use records::kind::decode;
 use records::numbers::RecordNumber;
 use records::record::RawRecord;
@@ -54,28 +59,28 @@ fn read_fields(kind: Kind, body: &[u8], at: RecordNumber) -> Result<Fields, Refu
     ensures { result ≡ decoded (size_of kind) (fields_of kind) body.now at }
 {
     let fields = match kind {
-        Kind::Atom => Fields::Atom(decode::<kinds::formulas::AtomFormula>(body, at)?),
+        Kind::Atom => Fields::Atom(decode::<AtomFormula>(body, at)?),
         Kind::Falsity => {
-            decode::<kinds::formulas::Falsity>(body, at)?;
+            decode::<Falsity>(body, at)?;
             Fields::Nothing
         }
-        Kind::And => Fields::Parts(decode::<kinds::formulas::And>(body, at)?),
-        Kind::Or => Fields::Parts(decode::<kinds::formulas::Or>(body, at)?),
-        Kind::Implies => Fields::Parts(decode::<kinds::formulas::Implies>(body, at)?),
-        Kind::Says => Fields::Modal(decode::<kinds::formulas::Says>(body, at)?),
-        Kind::Controls => Fields::Modal(decode::<kinds::formulas::Controls>(body, at)?),
-        Kind::Ratified => Fields::Modal(decode::<kinds::formulas::Ratified>(body, at)?),
-        Kind::Permitted => Fields::Modal(decode::<kinds::formulas::Permitted>(body, at)?),
-        Kind::Labels => Fields::Labels(decode::<kinds::facts::Labels>(body, at)?),
-        Kind::LeftFormula => Fields::Labelled(decode::<kinds::facts::LeftFact>(body, at)?),
-        Kind::RightFormula => Fields::Labelled(decode::<kinds::facts::RightFact>(body, at)?),
-        Kind::Order => Fields::Ordered(decode::<kinds::facts::OrderFact>(body, at)?),
-        Kind::Arrow => Fields::Arrowed(decode::<kinds::facts::ArrowFact>(body, at)?),
-        Kind::Worlds => Fields::Worlds(decode::<kinds::rows::Worlds>(body, at)?),
-        Kind::WorldsAbove => Fields::Above(decode::<kinds::rows::Above>(body, at)?),
-        Kind::ArrowEnds => Fields::Ends(decode::<kinds::rows::Ends>(body, at)?),
-        Kind::AtomRow => Fields::AtomRow(decode::<kinds::rows::AtomHolds>(body, at)?),
-        Kind::Place => Fields::Place(decode::<kinds::rows::Stands>(body, at)?),
+        Kind::And => Fields::Parts(decode::<And>(body, at)?),
+        Kind::Or => Fields::Parts(decode::<Or>(body, at)?),
+        Kind::Implies => Fields::Parts(decode::<Implies>(body, at)?),
+        Kind::Says => Fields::Modal(decode::<Says>(body, at)?),
+        Kind::Controls => Fields::Modal(decode::<Controls>(body, at)?),
+        Kind::Ratified => Fields::Modal(decode::<Ratified>(body, at)?),
+        Kind::Permitted => Fields::Modal(decode::<Permitted>(body, at)?),
+        Kind::Labels => Fields::Labels(decode::<Labels>(body, at)?),
+        Kind::LeftFormula => Fields::Labelled(decode::<LeftFact>(body, at)?),
+        Kind::RightFormula => Fields::Labelled(decode::<RightFact>(body, at)?),
+        Kind::Order => Fields::Ordered(decode::<OrderFact>(body, at)?),
+        Kind::Arrow => Fields::Arrowed(decode::<ArrowFact>(body, at)?),
+        Kind::Worlds => Fields::Worlds(decode::<Worlds>(body, at)?),
+        Kind::WorldsAbove => Fields::Above(decode::<Above>(body, at)?),
+        Kind::ArrowEnds => Fields::Ends(decode::<Ends>(body, at)?),
+        Kind::AtomRow => Fields::AtomRow(decode::<AtomHolds>(body, at)?),
+        Kind::Place => Fields::Place(decode::<Stands>(body, at)?),
     };
     Ok(fields)
 }
