@@ -6,6 +6,7 @@ use listings::listing::list;
 use records::file::MAX_FILE;
 use std::fs::File;
 use std::io::{Read, Write};
+use std::process::ExitCode;
 use std::{env, fmt, io};
 
 // One byte more than a file can have: enough to see that it has too many.
@@ -62,13 +63,16 @@ fn show(rt: &HostRuntime, bytes: &[u8]) -> anyhow::Result<()> {
     Ok(())
 }
 
-fn main(rt: HostRuntime) -> anyhow::Result<()> {
+fn main(rt: HostRuntime) -> anyhow::Result<ExitCode> {
     let source = asked_for(&rt)?;
     match read_some(&rt, &source) {
-        Ok(bytes) => show(&rt, bytes.as_slice()),
+        Ok(bytes) => {
+            show(&rt, bytes.as_slice())?;
+            Ok(ExitCode::SUCCESS)
+        }
         Err(error) => {
             eprintln!(rt; "listing: cannot read {source}: {error}")?;
-            Err(error.into())
+            Ok(ExitCode::FAILURE)
         }
     }
 }
