@@ -1,5 +1,5 @@
 -- What tests of sets of worlds say in plain words. Assumes nothing.
-use Rattle.std.proofs.Common.{◌≡◌, ℕ, zero, suc, ◌+◌, ◌^◌, ◌<◌, ◌≤◌, Bool, true, false, ◌&&◌, ◌||◌, T, ◌⊎◌, ◌↔◌, Decides, sym, refl, ap, ◌∙◌, subst, ap₂, inl, inr, add-one, arith, pow_pos}
+use Rattle.std.proofs.Common.{◌≡◌, ℕ, zero, suc, ◌+◌, ◌<◌, Bool, true, false, ◌&&◌, ◌||◌, T, ◌⊎◌, ◌↔◌, Decides, sym, refl, ap, ◌∙◌, subst, ap₂, inl, inr, add-one, arith, pow_pos}
 use mathlib.Core.Logic.{⊎_map}
 use lib.Bits.{bit_or, or_lt}
 use Rattle.std.proofs.lemmas.Bool.{cases_eq}

@@ -1,25 +1,23 @@
 -- The four layers keep their laws. Assumes nothing.
-use Rattle.std.specs.Prelude.{◌≡◌, ℕ, ◌<◌, ◌≤◌, Bool, true, false, cond, ◌||◌, T, ◌⊎◌, Some, None, Option, refl}
+use Rattle.std.specs.Prelude.{◌≡◌, ℕ, Bool, true, false, ◌||◌, T, ◌⊎◌, Option, refl}
 use Rattle.std.proofs.Common.{sym, subst, inl, inr, arith}
 use Rattle.std.proofs.Math.Logic.{⊎_map}
 use Rattle.records.specs.declared.numbers.Label.{Label}
 use Rattle.records.specs.declared.numbers.World.{World}
 use Rattle.records.specs.declared.numbers.Principal.{Principal}
 use Rattle.logic.specs.declared.terms.Modality.TheVariants.{Says, Controls, Ratified, Permitted}
-use Rattle.logic.specs.declared.terms.FactView.{FactView}
 use Rattle.logic.specs.declared.terms.Link.TheVariants.{Arrow}
-use Rattle.logic.specs.Models.{Frame}
 use Rattle.piles.specs.declared.terms.Named.{Named}
 use Rattle.piles.specs.declared.terms.Named.TheVariants.{Nothing, Single, Pair}
 use Rattle.piles.specs.declared.terms.Operands.{Operands}
-use Rattle.piles.specs.declared.terms.Premise.TheVariants.{Adds, AddsBoth}
+use Rattle.piles.specs.declared.terms.Premise.TheVariants.{Adds}
 use Rattle.piles.specs.declared.terms.Reading.{Reading}
 use Rattle.piles.specs.declared.terms.Reading.TheVariants.{Unknown, NoInstance, Goes, Splits}
-use Rattle.piles.specs.Asked.{AskedAs, has_formula, is_formula}
+use Rattle.piles.specs.Asked.{has_formula, is_formula}
 use Rattle.piles.specs.Readings.{Follows, ReadingUses, Usable, GivenIs, NamedHas}
 use Rattle.piles.specs.Layers.{LayerLaws}
-use Rattle.piles.specs.Instances.{of_one, of_two, of_none, of_arrow, of_same, of_label, of_principal, new_label}
-use Rattle.piles.proofs.Instances.{NamedAll, Known, all_known, Usables, all_usable, Any, all_any, of_none_good, of_label_good, of_principal_good, of_same_good, of_one_good, of_two_good, of_arrow_good, of_arrow_formula, arrow_old, arrow_to_new, arrow_from_new}
+use Rattle.piles.specs.Instances.{of_one, of_two, of_none, of_arrow, of_same}
+use Rattle.piles.proofs.Instances.{Known, all_known, Usables, all_usable, Any, all_any, of_none_good, of_label_good, of_principal_good, of_same_good, of_one_good, of_two_good, of_arrow_good, of_arrow_formula, arrow_old, arrow_to_new, arrow_from_new}
 use Rattle.packs.specs.declared.i_ss.ISs.{ISs}
 use Rattle.packs.specs.declared.c2p.C2p.{C2p}
 use Rattle.packs.specs.declared.del_c.DelC.{DelC}
