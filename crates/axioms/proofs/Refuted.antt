@@ -1,10 +1,6 @@
 -- Packs that break the first law. Assumes nothing.
-use Rattle.std.proofs.Common.{ℕ, Bool, true, false, Some, None, refl, arith}
-use Rattle.records.specs.declared.numbers.Label.{Label}
-use Rattle.records.specs.declared.numbers.World.{World}
-use Rattle.records.specs.declared.numbers.Principal.{Principal}
-use Rattle.logic.specs.declared.terms.Modality.{Modality}
-use Rattle.logic.specs.declared.terms.Modality.TheVariants.{Says, Controls, Ratified, Permitted}
+use Rattle.std.proofs.Common.{Some, None, refl, arith}
+use Rattle.logic.specs.declared.terms.Modality.TheVariants.{Ratified}
 use Rattle.logic.specs.declared.terms.Link.TheVariants.{Arrow}
 use Rattle.logic.specs.declared.terms.FactView.TheVariants.{Linked}
 use Rattle.piles.specs.declared.terms.Named.TheVariants.{Nothing, Single}

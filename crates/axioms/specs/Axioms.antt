@@ -1,8 +1,8 @@
 -- The four axioms are valid under the conditions of their layers. Assumes nothing.
-use Rattle.std.specs.Prelude.{ℕ, ◌<◌, Bool, true, false, ◌&&◌, T, ◌⊎◌, ◌↔◌}
+use Rattle.std.specs.Prelude.{ℕ, ◌<◌, Bool, ◌&&◌, T, ◌⊎◌, ◌↔◌}
 use Rattle.std.proofs.Common.{inl, inr}
 use Rattle.logic.specs.declared.terms.Modality.TheVariants.{Says, Controls, Ratified, Permitted}
-use Rattle.logic.specs.Models.{Formula, Model, holds, every, any, ◌⊃◌, and, implies, modal}
+use Rattle.logic.specs.Models.{Formula, Model, holds, every, ◌⊃◌, and, implies, modal}
 use Rattle.packs.specs.ISsMeaning.{SaysSays}
 use Rattle.packs.specs.C2pMeaning.{ControlsPermits}
 use Rattle.packs.specs.DelCMeaning.{Delegates}

@@ -1,5 +1,5 @@
 -- The published pile written out: its conditions, its bodies, and what is shown of them. Assumes nothing.
-use Rattle.std.specs.Prelude.{◌≡◌, ℕ, zero, suc, ◌<◌, ◌≤◌, Bool, false, T, ◌⊎◌, ◌↔◌, List, [], ◌∷◌, Some, None, Option}
+use Rattle.std.specs.Prelude.{◌≡◌, ℕ, zero, suc, ◌<◌, ◌≤◌, false, T, ◌⊎◌, ◌↔◌, List, [], ◌∷◌, Some}
 use Rattle.logic.specs.declared.terms.Modality.{Modality}
 use Rattle.logic.specs.declared.terms.Modality.TheVariants.{Says, Controls, Ratified, Permitted}
 use Rattle.logic.specs.Models.{Frame, Model, Formula, holds, modal}

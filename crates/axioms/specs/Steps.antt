@@ -11,7 +11,7 @@ use Rattle.piles.specs.declared.terms.Named.TheVariants.{Nothing, Single, Pair}
 use Rattle.piles.specs.declared.terms.Operands.{Operands}
 use Rattle.piles.specs.declared.terms.Premise.TheVariants.{Adds, AddsBoth}
 use Rattle.piles.specs.declared.terms.Reading.{Reading}
-use Rattle.piles.specs.declared.terms.Reading.TheVariants.{Unknown, NoInstance, Goes, Splits}
+use Rattle.piles.specs.declared.terms.Reading.TheVariants.{NoInstance, Goes, Splits}
 use Rattle.piles.specs.Packs.{Readings}
 use Rattle.piles.specs.Instances.{new_label}
 

@@ -1,5 +1,5 @@
 -- Packs that are not lawful. Assumes nothing.
-use Rattle.std.specs.Prelude.{ℕ, true, cond, [], Some, None, Option, ◌==◌}
+use Rattle.std.specs.Prelude.{true, cond, [], Some, None, ◌==◌}
 use Rattle.logic.specs.declared.terms.Modality.TheVariants.{Says, Ratified}
 use Rattle.logic.specs.declared.terms.Link.TheVariants.{Arrow}
 use Rattle.piles.specs.declared.terms.Arity.TheVariants.{Zero}

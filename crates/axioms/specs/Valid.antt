@@ -1,7 +1,7 @@
 -- The axioms that the published layers stand for, and when an axiom is valid. Assumes nothing.
-use Rattle.std.specs.Prelude.{◌≡◌, ℕ, ◌<◌, T}
+use Rattle.std.specs.Prelude.{ℕ, ◌<◌, T}
 use Rattle.logic.specs.declared.terms.Modality.TheVariants.{Says, Controls, Ratified, Permitted}
-use Rattle.logic.specs.Models.{Formula, Frame, Model, holds, and, implies, modal}
+use Rattle.logic.specs.Models.{Formula, Model, holds, and, implies, modal}
 use Rattle.logic.specs.ModelRules.{Keeps}
 use Rattle.logic.specs.Facts.{Principals}
 use Rattle.piles.specs.Packs.{Condition}

@@ -1,21 +1,20 @@
 -- The conditions of the published pile, written out; frames that fail one of them; a model where says is not ratified. Assumes nothing.
-use Rattle.std.specs.Prelude.{◌≡◌, ℕ, ◌<◌, ◌≤◌, min, Bool, true, false, cond, not, ◌&&◌, ◌||◌, T, ◌⊎◌, ◌↔◌, List, [], ◌∷◌, Some, ◌==◌, refl}
-use Rattle.std.proofs.Common.{sym, subst, ap, inl, inr, arith, eqb→eq}
+use Rattle.std.specs.Prelude.{ℕ, ◌<◌, ◌≤◌, Bool, true, false, not, ◌||◌, T, ◌↔◌, List, [], ◌∷◌, ◌==◌, refl}
+use Rattle.std.proofs.Common.{sym, subst, inl, inr, arith, eqb→eq}
 use Rattle.std.proofs.Math.Logic.{⊎_map}
 use Rattle.std.proofs.lemmas.Bool.{eq-eqb}
 use Rattle.logic.specs.declared.terms.Modality.{Modality}
 use Rattle.logic.specs.declared.terms.Modality.TheVariants.{Says, Controls, Ratified, Permitted}
-use Rattle.logic.specs.Models.{Frame, Model, Formula, holds, modal, atom}
-use Rattle.logic.specs.ModelRules.{Regular, Keeps, universal}
+use Rattle.logic.specs.Models.{Frame, Model, atom}
+use Rattle.logic.specs.ModelRules.{Regular, Keeps}
 use Rattle.piles.specs.Asked.{SomePrincipals}
 use Rattle.piles.specs.Packs.{Condition, Meets, Admits}
 use Rattle.packs.specs.ISsMeaning.{SaysSays}
 use Rattle.packs.specs.C2pMeaning.{ControlsPermits}
 use Rattle.packs.specs.DelCMeaning.{Delegates}
 use Rattle.packs.specs.RsMeaning.{SaysRatified}
-use Rattle.packs.proofs.Worlds.{T_true, true_T}
-use Rattle.axioms.specs.Valid.{ValidIn}
-use Rattle.axioms.specs.InWords.{InWords, Agree, FailsOnly, Alone, SaysWithoutRatified, FourAxioms, AsPublished}
+use Rattle.packs.proofs.Worlds.{T_true}
+use Rattle.axioms.specs.InWords.{InWords, Agree, Alone, SaysWithoutRatified, FourAxioms, AsPublished}
 use Rattle.axioms.specs.Axioms.{i_ss_valid, c2p_valid, del_c_valid, rs_valid}
 
 -- the conditions, from the top

@@ -1,5 +1,5 @@
 -- The step kinds of the published pile, written out. Assumes nothing.
-use Rattle.std.specs.Prelude.{◌≡◌, ℕ, Bool, true, false, cond, eqb, ◌≢◌, ◌⊎◌, Some, None, Option, refl}
+use Rattle.std.specs.Prelude.{◌≡◌, ℕ, Bool, cond, ◌≢◌, None, Option, refl}
 use Rattle.std.proofs.Common.{ap, ◌∙◌, inl, inr}
 use Rattle.std.proofs.lemmas.Bool.{eq-eqb, ne_eqb, cond-false}
 use Rattle.records.specs.declared.numbers.Label.{Label}

@@ -4,18 +4,16 @@ use Rattle.std.proofs.Common.{sym, subst, inl, inr, arith, ltb→lt}
 use Rattle.records.specs.declared.numbers.Label.{Label}
 use Rattle.records.specs.declared.numbers.Principal.{Principal}
 use Rattle.logic.specs.declared.terms.Modality.TheVariants.{Says}
-use Rattle.logic.specs.declared.terms.Link.TheVariants.{Arrow}
-use Rattle.logic.specs.Models.{Frame, Model, Formula, holds, every, ◌⊃◌, implies, modal}
+use Rattle.logic.specs.Models.{holds, ◌⊃◌, modal}
 use Rattle.piles.specs.declared.terms.Named.{Named}
 use Rattle.piles.specs.declared.terms.Named.TheVariants.{Nothing, Single, Pair}
 use Rattle.piles.specs.declared.terms.Premise.{Premise}
-use Rattle.piles.specs.declared.terms.Premise.TheVariants.{Adds}
 use Rattle.piles.specs.declared.terms.Reading.{Reading}
 use Rattle.piles.specs.declared.terms.Reading.TheVariants.{Unknown, NoInstance, Goes}
 use Rattle.piles.specs.Asked.{has_formula}
 use Rattle.piles.specs.Readings.{Follows, ReadingUses, Usable, GivenIs}
 use Rattle.piles.specs.Layers.{LayerLaws}
-use Rattle.piles.specs.Instances.{of_none, of_label}
+use Rattle.piles.specs.Instances.{of_none}
 use Rattle.piles.proofs.Instances.{of_none_good, of_label_good, arrow_old}
 use Rattle.packs.proofs.Worlds.{T_if, T_every}
 use Rattle.stranger.specs.declared.believed.Believed.{Believed}
