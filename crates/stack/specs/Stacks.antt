@@ -4,8 +4,8 @@
 -- these places (`Made`); every call that changes the stack keeps them (`Same`), and a loop or a function that is handed the stack
 -- passes `Same` on. After `cut(0)` or `blank_all` no item is left. From these the lemma `cleared` of proofs/Counts.antt gives
 -- that as many places are left as were brought, used or not, also beyond the limit, and every one is blank (`Cleared`);
--- `emptied` gives the last alone (`Blanked`). The answer is `search (needs, cleared)`; a loop's invariant is
--- `Same l.entry.s l.s`. It goes so where the type of the elements is a given one: a function that is itself generic in it
+-- `emptied` gives the last alone (`Blanked`). The answer is `search (rules, cleared)`; a loop's invariant is
+-- `Same l.initial.s l.s`. It goes so where the type of the elements is a given one: a function that is itself generic in it
 -- is told only how many places come back.
 use Rattle.std.specs.Prelude.{◌≡◌, ℕ, ◌-◌, min, List, length, take, Option}
 use Rattle.std.specs.Borrow.{MutBor}
