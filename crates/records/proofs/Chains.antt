@@ -3,6 +3,7 @@ use Rattle.std.proofs.Common.{◌≡◌, ℕ, zero, suc, ◌+◌, ◌-◌, ◌*�
 use lib.ListN.{length-map}
 use Rattle.std.proofs.lemmas.List.{map_push, length_push}
 use Rattle.records.specs.declared.record.RawRecord.{RawRecord}
+use Rattle.records.specs.declared.record.Numbered.{Numbered}
 use Rattle.records.specs.declared.refusal.Refusal.{Refusal}
 use Rattle.records.specs.Chains.{Record, whole, cut, front, put, stopped, chain_by, chain, record_of, broken_at, ending, Next}
 use Rattle.records.proofs.Fronts.{front_parts}
@@ -73,5 +74,5 @@ pub ends_broken : (bs : List ℕ) (fs : List RawRecord) (rest : List ℕ) (n : �
 ends_broken bs fs rest n e w some count is =
     ap Some (is ∙ ap broken_at (count ∙ sym w.count)) ∙ sym (ap (ending (length (chain bs).records)) w.rest_is ∙ ending_some _ rest some)
 
-pub next_at : (bs : List ℕ) (n : ℕ) (rest : List ℕ) (m : ℕ) {r t : Result (Option RawRecord) Refusal} → r ≡ t → Next bs n r rest m → Next bs n t rest m
+pub next_at : (bs : List ℕ) (n : ℕ) (rest : List ℕ) (m : ℕ) {r t : Result (Option Numbered) Refusal} → r ≡ t → Next bs n r rest m → Next bs n t rest m
 next_at bs n rest m e h = subst (λ x. Next bs n x rest m) e h

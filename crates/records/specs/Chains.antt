@@ -3,6 +3,7 @@ use Rattle.std.specs.Prelude.{◌≡◌, ℕ, zero, suc, ◌+◌, ◌-◌, ◌*�
 use Rattle.std.specs.Borrow.{Bor}
 use Rattle.records.specs.Bytes.{word}
 use Rattle.records.specs.declared.record.RawRecord.{RawRecord}
+use Rattle.records.specs.declared.record.Numbered.{Numbered}
 use Rattle.records.specs.declared.refusal.Refusal.{Refusal}
 use Rattle.records.specs.declared.refusal.Refusal.TheVariants.{Frame}
 
@@ -97,7 +98,7 @@ Shorter bs None = Unit {0}
 Shorter bs (Some p) = length p.1.now + 4 ≤ length bs
 
 -- what a cursor that stands before the bytes bs, with n records read, answers, and where it stands then
-abbrev pub Next : List ℕ → ℕ → Result (Option RawRecord) Refusal → List ℕ → ℕ → Type 0
+abbrev pub Next : List ℕ → ℕ → Result (Option Numbered) Refusal → List ℕ → ℕ → Type 0
 Next bs n (Ok None) rest m = (bs ≡ []) × (rest ≡ bs) × (m ≡ n)
-Next bs n (Ok (Some r)) rest m = (front bs ≡ whole (record_of r) rest) × (m ≡ n + 1)
+Next bs n (Ok (Some r)) rest m = (front bs ≡ whole (record_of r.raw) rest) × (r.at.0 ≡ n) × (m ≡ n + 1)
 Next bs n (Err e) rest m = (bs ≢ []) × (front bs ≡ cut) × (e ≡ broken_at n) × (rest ≡ bs) × (m ≡ n)

@@ -2,6 +2,8 @@
 ghost use Rattle.std.specs.Prelude.{◌≡◌, ◌+◌, ◌≤◌, length};
 ghost use Rattle.records.specs.Bytes.{word, long};
 
+// Two functions, one for each width: `from_le_bytes` is a method of each type of numbers, and a trait over the two would say both once more.
+
 // The two-byte number at `at`.
 pub fn word_at(bytes: &[u8], at: usize) -> u16
     requires { at + 2 ≤ length bytes.now }

@@ -5,7 +5,7 @@ ghost use Rattle.records.specs.Refusals.{number_of, second_of};
 use crate::numbers::{AtomNumber, ConditionPlace, FactPosition, Label, RecordNumber};
 use std::fmt;
 
-#[derive(Clone, Copy)]
+#[derive(Clone, Copy, PartialEq, Eq, Debug)]
 pub enum Refusal {
     // the number of principals is not 1 to 8
     PrincipalCount,
@@ -50,7 +50,7 @@ pub enum Refusal {
 }
 
 impl Refusal {
-    // The number of the refusal.
+    // The number of the refusal. No `From` into a number: a refusal has two, and the other stands in `second`.
     pub fn number(self) -> u16
         ensures { result ≡ number_of self }
     {
@@ -128,22 +128,22 @@ impl Refusal {
         }
     }
 
-    // What the number beside it counts, in plain words; empty where there is none.
-    fn counted(self) -> &'static str {
+    // What the number beside it counts, in plain words; none where there is none.
+    fn counted(self) -> Option<&'static str> {
         match self {
-            Refusal::PrincipalCount => "",
-            Refusal::FileTooLong => "",
-            Refusal::NoSequent => "",
-            Refusal::AlreadyOut => "",
-            Refusal::NotOut => "",
-            Refusal::OrderBroken => "",
-            Refusal::LineTooLong => "",
-            Refusal::EndsEarly(_) => "records read: ",
-            Refusal::AtomRowOpen(_) => "atom ",
-            Refusal::ConditionFails(_) => "place ",
-            Refusal::DoesNotFalsify(_) => "position ",
-            Refusal::LabelUnplaced(_) => "label ",
-            _ => "record ",
+            Refusal::PrincipalCount
+            | Refusal::FileTooLong
+            | Refusal::NoSequent
+            | Refusal::AlreadyOut
+            | Refusal::NotOut
+            | Refusal::OrderBroken
+            | Refusal::LineTooLong => None,
+            Refusal::EndsEarly(_) => Some("records read: "),
+            Refusal::AtomRowOpen(_) => Some("atom "),
+            Refusal::ConditionFails(_) => Some("place "),
+            Refusal::DoesNotFalsify(_) => Some("position "),
+            Refusal::LabelUnplaced(_) => Some("label "),
+            _ => Some("record "),
         }
     }
 }
@@ -152,11 +152,9 @@ impl Refusal {
 impl fmt::Display for Refusal {
     fn fmt<W: fmt::Write>(&self, f: &mut fmt::Formatter<W>) -> fmt::Result {
         let words = self.words();
-        let counted = self.counted();
-        if counted.is_empty() {
-            return write!(f, "{words}");
+        match self.counted() {
+            Some(counted) => write!(f, "{words} ({counted}{})", self.second()),
+            None => f.write_str(words),
         }
-        let second = self.second();
-        write!(f, "{words} ({counted}{second})")
     }
 }

@@ -5,7 +5,7 @@ ghost use Rattle.records.specs.Files.{bytes_of};
 use crate::cursor::{Cursor, split_record};
 use crate::file::File;
 use crate::numbers::RecordNumber;
-use crate::record::RawRecord;
+use crate::record::Numbered;
 use crate::refusal::Refusal;
 
 impl<'a> Cursor<'a> {
@@ -24,8 +24,7 @@ impl<'a> Cursor<'a> {
     pub fn number(&self) -> RecordNumber
         ensures { result.0 ≡ self.now.number }
     {
-        let number = self.number;
-        RecordNumber(number)
+        RecordNumber(self.number)
     }
 
     // How many bytes are still to be read.
@@ -36,20 +35,16 @@ impl<'a> Cursor<'a> {
     }
 
     // The next record; none at the end; or the refusal of a frame that is broken there, with the cursor as it was.
-    pub fn next(&mut self) -> Result<Option<RawRecord<'a>>, Refusal>
+    pub fn next(&mut self) -> Result<Option<Numbered<'a>>, Refusal>
         ensures { Next self.old.rest.now self.old.number result self.new.rest.now self.new.number }
     {
-        let bytes = self.rest;
-        if bytes.len() == 0 {
+        if self.rest.is_empty() {
             return Ok(None);
         }
-        match split_record(bytes) {
-            None => Err(Refusal::Frame(RecordNumber(self.number))),
-            Some((record, rest)) => {
-                self.rest = rest;
-                self.number += 1;
-                Ok(Some(record))
-            }
-        }
+        let at = self.number();
+        let (raw, rest) = split_record(self.rest).ok_or(Refusal::Frame(at))?;
+        self.rest = rest;
+        self.number += 1;
+        Ok(Some(Numbered { at, raw }))
     }
 }

@@ -1,5 +1,5 @@
 ghost use Rattle.std.specs.Prelude.{◌≡◌, ◌≤◌, length};
-ghost use Rattle.records.specs.Files.{bytes_of, Limited};
+ghost use Rattle.records.specs.Files.{bytes_of, IsFile, Limited};
 
 use crate::file::{File, MAX_FILE};
 use crate::refusal::Refusal;
@@ -29,5 +29,17 @@ impl<'a> File<'a> {
         ensures bound { length result.now ≤ 32768 }
     {
         self.bytes
+    }
+}
+
+// The bytes as a file; refused where there are more than 32,768.
+impl<'a> TryFrom<&'a [u8]> for File<'a> {
+    type Error = Refusal;
+
+    ghost try_from_gives = { IsFile };
+
+    fn try_from(bytes: &'a [u8]) -> Result<File<'a>, Refusal> {
+        File::check(bytes)?;
+        Ok(File::new(bytes))
     }
 }
