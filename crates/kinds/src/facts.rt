@@ -7,25 +7,25 @@ use records::kind::RecordKind;
 use records::numbers::{FormulaNumber, Label, LabelCount, Principal};
 
 // The number of a modality, 6 to 9 for says, controls, ratified and permitted.
-#[derive(Clone, Copy)]
+#[derive(Clone, Copy, PartialEq, Eq, Debug)]
 pub struct ModalityNumber(pub u16);
 
 // A formula at a label.
-#[derive(Clone, Copy)]
+#[derive(Clone, Copy, PartialEq, Eq, Debug)]
 pub struct Labelled {
     pub label: Label,
     pub formula: FormulaNumber,
 }
 
 // One label below another.
-#[derive(Clone, Copy)]
+#[derive(Clone, Copy, PartialEq, Eq, Debug)]
 pub struct Ordered {
     pub lower: Label,
     pub upper: Label,
 }
 
 // An arrow between labels.
-#[derive(Clone, Copy)]
+#[derive(Clone, Copy, PartialEq, Eq, Debug)]
 pub struct Arrowed {
     pub modality: ModalityNumber,
     pub principal: Principal,
@@ -33,18 +33,9 @@ pub struct Arrowed {
     pub to: Label,
 }
 
-// The label, and the formula at it.
-fn read_labelled(body: &[u8]) -> Labelled
-    requires { length body.now ≡ 4 }
-    ensures { result ≡ labelled_of body.now }
-{
-    Labelled {
-        label: Label(word_at(body, 0)),
-        formula: FormulaNumber(word_at(body, 2)),
-    }
-}
-
 // The sequent has labels 0 to n - 1.
+// (The kinds of one number, this, an atom's and the worlds', have a content type each, and one generic kind over the three would need a
+// trait with an impl for each.)
 pub struct Labels;
 
 impl RecordKind for Labels {
@@ -52,84 +43,48 @@ impl RecordKind for Labels {
 
     const KIND: u16 = 10;
 
+    ghost KIND = { 10 };
+
     const SIZE: usize = 2;
 
-    ghost kind = { 10 };
-
-    ghost size = { 2 };
+    ghost SIZE = { 2 };
 
     ghost content = { label_count_of };
-
-    fn kind_number() -> u16 {
-        Self::KIND
-    }
-
-    fn body_size() -> usize {
-        Self::SIZE
-    }
 
     fn read(body: &[u8]) -> LabelCount {
         LabelCount(word_at(body, 0))
     }
 }
 
-// A formula at a label, on the left.
-pub struct LeftFact;
+// The kind, by its number, of a formula at a label.
+pub struct FormulaFact<const NUMBER: u16>;
 
-impl RecordKind for LeftFact {
+impl<const NUMBER: u16> RecordKind for FormulaFact<NUMBER> {
     type Content = Labelled;
 
-    const KIND: u16 = 11;
+    const KIND: u16 = NUMBER;
+
+    ghost KIND = { NUMBER };
 
     const SIZE: usize = 4;
 
-    ghost kind = { 11 };
-
-    ghost size = { 4 };
+    ghost SIZE = { 4 };
 
     ghost content = { labelled_of };
 
-    fn kind_number() -> u16 {
-        Self::KIND
-    }
-
-    fn body_size() -> usize {
-        Self::SIZE
-    }
-
     fn read(body: &[u8]) -> Labelled {
-        read_labelled(body)
+        Labelled {
+            label: Label(word_at(body, 0)),
+            formula: FormulaNumber(word_at(body, 2)),
+        }
     }
 }
+
+// A formula at a label, on the left.
+pub type LeftFact = FormulaFact<11>;
 
 // A formula at a label, on the right.
-pub struct RightFact;
-
-impl RecordKind for RightFact {
-    type Content = Labelled;
-
-    const KIND: u16 = 12;
-
-    const SIZE: usize = 4;
-
-    ghost kind = { 12 };
-
-    ghost size = { 4 };
-
-    ghost content = { labelled_of };
-
-    fn kind_number() -> u16 {
-        Self::KIND
-    }
-
-    fn body_size() -> usize {
-        Self::SIZE
-    }
-
-    fn read(body: &[u8]) -> Labelled {
-        read_labelled(body)
-    }
-}
+pub type RightFact = FormulaFact<12>;
 
 // One label below another.
 pub struct OrderFact;
@@ -139,21 +94,13 @@ impl RecordKind for OrderFact {
 
     const KIND: u16 = 13;
 
+    ghost KIND = { 13 };
+
     const SIZE: usize = 4;
 
-    ghost kind = { 13 };
-
-    ghost size = { 4 };
+    ghost SIZE = { 4 };
 
     ghost content = { ordered_of };
-
-    fn kind_number() -> u16 {
-        Self::KIND
-    }
-
-    fn body_size() -> usize {
-        Self::SIZE
-    }
 
     fn read(body: &[u8]) -> Ordered {
         Ordered {
@@ -171,21 +118,13 @@ impl RecordKind for ArrowFact {
 
     const KIND: u16 = 14;
 
+    ghost KIND = { 14 };
+
     const SIZE: usize = 8;
 
-    ghost kind = { 14 };
-
-    ghost size = { 8 };
+    ghost SIZE = { 8 };
 
     ghost content = { arrowed_of };
-
-    fn kind_number() -> u16 {
-        Self::KIND
-    }
-
-    fn body_size() -> usize {
-        Self::SIZE
-    }
 
     fn read(body: &[u8]) -> Arrowed {
         Arrowed {

@@ -7,39 +7,17 @@ use records::kind::RecordKind;
 use records::numbers::{AtomNumber, FormulaNumber, Principal};
 
 // The two parts of a formula.
-#[derive(Clone, Copy)]
+#[derive(Clone, Copy, PartialEq, Eq, Debug)]
 pub struct Parts {
     pub left: FormulaNumber,
     pub right: FormulaNumber,
 }
 
 // What a modality is about: whose it is, and the formula under it.
-#[derive(Clone, Copy)]
+#[derive(Clone, Copy, PartialEq, Eq, Debug)]
 pub struct Modal {
     pub principal: Principal,
     pub formula: FormulaNumber,
-}
-
-// The two parts.
-fn read_parts(body: &[u8]) -> Parts
-    requires { length body.now ≡ 4 }
-    ensures { result ≡ parts_of body.now }
-{
-    Parts {
-        left: FormulaNumber(word_at(body, 0)),
-        right: FormulaNumber(word_at(body, 2)),
-    }
-}
-
-// The principal, and the formula under the modality.
-fn read_modal(body: &[u8]) -> Modal
-    requires { length body.now ≡ 4 }
-    ensures { result ≡ modal_of body.now }
-{
-    Modal {
-        principal: Principal(word_at(body, 0)),
-        formula: FormulaNumber(word_at(body, 2)),
-    }
 }
 
 // An atom.
@@ -50,21 +28,13 @@ impl RecordKind for AtomFormula {
 
     const KIND: u16 = 1;
 
+    ghost KIND = { 1 };
+
     const SIZE: usize = 2;
 
-    ghost kind = { 1 };
-
-    ghost size = { 2 };
+    ghost SIZE = { 2 };
 
     ghost content = { atom_of };
-
-    fn kind_number() -> u16 {
-        Self::KIND
-    }
-
-    fn body_size() -> usize {
-        Self::SIZE
-    }
 
     fn read(body: &[u8]) -> AtomNumber {
         AtomNumber(word_at(body, 0))
@@ -79,226 +49,84 @@ impl RecordKind for Falsity {
 
     const KIND: u16 = 2;
 
+    ghost KIND = { 2 };
+
     const SIZE: usize = 0;
 
-    ghost kind = { 2 };
-
-    ghost size = { 0 };
+    ghost SIZE = { 0 };
 
     ghost content = { nothing_of };
-
-    fn kind_number() -> u16 {
-        Self::KIND
-    }
-
-    fn body_size() -> usize {
-        Self::SIZE
-    }
 
     fn read(_body: &[u8]) -> () {
         ()
     }
 }
 
-// f and g.
-pub struct And;
+// The kind, by its number, of a formula of two parts.
+pub struct Connective<const NUMBER: u16>;
 
-impl RecordKind for And {
+impl<const NUMBER: u16> RecordKind for Connective<NUMBER> {
     type Content = Parts;
 
-    const KIND: u16 = 3;
+    const KIND: u16 = NUMBER;
+
+    ghost KIND = { NUMBER };
 
     const SIZE: usize = 4;
 
-    ghost kind = { 3 };
-
-    ghost size = { 4 };
+    ghost SIZE = { 4 };
 
     ghost content = { parts_of };
 
-    fn kind_number() -> u16 {
-        Self::KIND
-    }
-
-    fn body_size() -> usize {
-        Self::SIZE
-    }
-
     fn read(body: &[u8]) -> Parts {
-        read_parts(body)
+        Parts {
+            left: FormulaNumber(word_at(body, 0)),
+            right: FormulaNumber(word_at(body, 2)),
+        }
     }
 }
+
+// f and g.
+pub type And = Connective<3>;
 
 // f or g.
-pub struct Or;
-
-impl RecordKind for Or {
-    type Content = Parts;
-
-    const KIND: u16 = 4;
-
-    const SIZE: usize = 4;
-
-    ghost kind = { 4 };
-
-    ghost size = { 4 };
-
-    ghost content = { parts_of };
-
-    fn kind_number() -> u16 {
-        Self::KIND
-    }
-
-    fn body_size() -> usize {
-        Self::SIZE
-    }
-
-    fn read(body: &[u8]) -> Parts {
-        read_parts(body)
-    }
-}
+pub type Or = Connective<4>;
 
 // f implies g.
-pub struct Implies;
+pub type Implies = Connective<5>;
 
-impl RecordKind for Implies {
-    type Content = Parts;
+// The kind, by its number, of a formula under a modality.
+pub struct Under<const NUMBER: u16>;
 
-    const KIND: u16 = 5;
+impl<const NUMBER: u16> RecordKind for Under<NUMBER> {
+    type Content = Modal;
+
+    const KIND: u16 = NUMBER;
+
+    ghost KIND = { NUMBER };
 
     const SIZE: usize = 4;
 
-    ghost kind = { 5 };
+    ghost SIZE = { 4 };
 
-    ghost size = { 4 };
+    ghost content = { modal_of };
 
-    ghost content = { parts_of };
-
-    fn kind_number() -> u16 {
-        Self::KIND
-    }
-
-    fn body_size() -> usize {
-        Self::SIZE
-    }
-
-    fn read(body: &[u8]) -> Parts {
-        read_parts(body)
+    fn read(body: &[u8]) -> Modal {
+        Modal {
+            principal: Principal(word_at(body, 0)),
+            formula: FormulaNumber(word_at(body, 2)),
+        }
     }
 }
 
 // A says f.
-pub struct Says;
-
-impl RecordKind for Says {
-    type Content = Modal;
-
-    const KIND: u16 = 6;
-
-    const SIZE: usize = 4;
-
-    ghost kind = { 6 };
-
-    ghost size = { 4 };
-
-    ghost content = { modal_of };
-
-    fn kind_number() -> u16 {
-        Self::KIND
-    }
-
-    fn body_size() -> usize {
-        Self::SIZE
-    }
-
-    fn read(body: &[u8]) -> Modal {
-        read_modal(body)
-    }
-}
+pub type Says = Under<6>;
 
 // A controls f.
-pub struct Controls;
-
-impl RecordKind for Controls {
-    type Content = Modal;
-
-    const KIND: u16 = 7;
-
-    const SIZE: usize = 4;
-
-    ghost kind = { 7 };
-
-    ghost size = { 4 };
-
-    ghost content = { modal_of };
-
-    fn kind_number() -> u16 {
-        Self::KIND
-    }
-
-    fn body_size() -> usize {
-        Self::SIZE
-    }
-
-    fn read(body: &[u8]) -> Modal {
-        read_modal(body)
-    }
-}
+pub type Controls = Under<7>;
 
 // A ratified f.
-pub struct Ratified;
-
-impl RecordKind for Ratified {
-    type Content = Modal;
-
-    const KIND: u16 = 8;
-
-    const SIZE: usize = 4;
-
-    ghost kind = { 8 };
-
-    ghost size = { 4 };
-
-    ghost content = { modal_of };
-
-    fn kind_number() -> u16 {
-        Self::KIND
-    }
-
-    fn body_size() -> usize {
-        Self::SIZE
-    }
-
-    fn read(body: &[u8]) -> Modal {
-        read_modal(body)
-    }
-}
+pub type Ratified = Under<8>;
 
 // A is permitted f.
-pub struct Permitted;
-
-impl RecordKind for Permitted {
-    type Content = Modal;
-
-    const KIND: u16 = 9;
-
-    const SIZE: usize = 4;
-
-    ghost kind = { 9 };
-
-    ghost size = { 4 };
-
-    ghost content = { modal_of };
-
-    fn kind_number() -> u16 {
-        Self::KIND
-    }
-
-    fn body_size() -> usize {
-        Self::SIZE
-    }
-
-    fn read(body: &[u8]) -> Modal {
-        read_modal(body)
-    }
-}
+pub type Permitted = Under<9>;

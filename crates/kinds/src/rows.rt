@@ -6,19 +6,19 @@ use records::bytes::{long_at, word_at};
 use records::kind::RecordKind;
 use records::numbers::{AtomNumber, Label, Principal, World, WorldCount};
 
-// A set of worlds: bit w stands for world w.
-#[derive(Clone, Copy)]
+// A set of worlds: bit w stands for world w. What is read of a file alone; the sets of a model belong to `rows`, which lies above.
+#[derive(Clone, Copy, PartialEq, Eq, Debug)]
 pub struct WorldMask(pub u32);
 
 // The worlds above a world.
-#[derive(Clone, Copy)]
+#[derive(Clone, Copy, PartialEq, Eq, Debug)]
 pub struct AboveRow {
     pub world: World,
     pub mask: WorldMask,
 }
 
 // The ends of a principal's arrows from a world.
-#[derive(Clone, Copy)]
+#[derive(Clone, Copy, PartialEq, Eq, Debug)]
 pub struct EndsRow {
     pub modality: ModalityNumber,
     pub principal: Principal,
@@ -27,14 +27,14 @@ pub struct EndsRow {
 }
 
 // The worlds where an atom holds.
-#[derive(Clone, Copy)]
+#[derive(Clone, Copy, PartialEq, Eq, Debug)]
 pub struct AtomRow {
     pub atom: AtomNumber,
     pub mask: WorldMask,
 }
 
 // The world where a label stands.
-#[derive(Clone, Copy)]
+#[derive(Clone, Copy, PartialEq, Eq, Debug)]
 pub struct Place {
     pub label: Label,
     pub world: World,
@@ -48,21 +48,13 @@ impl RecordKind for Worlds {
 
     const KIND: u16 = 20;
 
+    ghost KIND = { 20 };
+
     const SIZE: usize = 2;
 
-    ghost kind = { 20 };
-
-    ghost size = { 2 };
+    ghost SIZE = { 2 };
 
     ghost content = { world_count_of };
-
-    fn kind_number() -> u16 {
-        Self::KIND
-    }
-
-    fn body_size() -> usize {
-        Self::SIZE
-    }
 
     fn read(body: &[u8]) -> WorldCount {
         WorldCount(word_at(body, 0))
@@ -77,21 +69,13 @@ impl RecordKind for Above {
 
     const KIND: u16 = 21;
 
+    ghost KIND = { 21 };
+
     const SIZE: usize = 6;
 
-    ghost kind = { 21 };
-
-    ghost size = { 6 };
+    ghost SIZE = { 6 };
 
     ghost content = { above_of };
-
-    fn kind_number() -> u16 {
-        Self::KIND
-    }
-
-    fn body_size() -> usize {
-        Self::SIZE
-    }
 
     fn read(body: &[u8]) -> AboveRow {
         AboveRow {
@@ -109,21 +93,13 @@ impl RecordKind for Ends {
 
     const KIND: u16 = 22;
 
+    ghost KIND = { 22 };
+
     const SIZE: usize = 10;
 
-    ghost kind = { 22 };
-
-    ghost size = { 10 };
+    ghost SIZE = { 10 };
 
     ghost content = { ends_of };
-
-    fn kind_number() -> u16 {
-        Self::KIND
-    }
-
-    fn body_size() -> usize {
-        Self::SIZE
-    }
 
     fn read(body: &[u8]) -> EndsRow {
         EndsRow {
@@ -143,21 +119,13 @@ impl RecordKind for AtomHolds {
 
     const KIND: u16 = 23;
 
+    ghost KIND = { 23 };
+
     const SIZE: usize = 6;
 
-    ghost kind = { 23 };
-
-    ghost size = { 6 };
+    ghost SIZE = { 6 };
 
     ghost content = { atom_row_of };
-
-    fn kind_number() -> u16 {
-        Self::KIND
-    }
-
-    fn body_size() -> usize {
-        Self::SIZE
-    }
 
     fn read(body: &[u8]) -> AtomRow {
         AtomRow {
@@ -175,21 +143,13 @@ impl RecordKind for Stands {
 
     const KIND: u16 = 24;
 
+    ghost KIND = { 24 };
+
     const SIZE: usize = 4;
 
-    ghost kind = { 24 };
-
-    ghost size = { 4 };
+    ghost SIZE = { 4 };
 
     ghost content = { place_of };
-
-    fn kind_number() -> u16 {
-        Self::KIND
-    }
-
-    fn body_size() -> usize {
-        Self::SIZE
-    }
 
     fn read(body: &[u8]) -> Place {
         Place {
