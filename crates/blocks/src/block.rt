@@ -1,11 +1,11 @@
 // The blocks of the program's input, framed like records.
 ghost use Rattle.std.specs.Prelude.{◌≡◌, length};
-ghost use Rattle.blocks.specs.Blocks.{block_kind, block_number, fits_block, NextBlock};
+ghost use Rattle.blocks.specs.Blocks.{block_number, fits_block, AsksFor, NextBlock};
 
 use records::cursor::split_record;
 
 // What a block asks for.
-#[derive(Clone, Copy)]
+#[derive(Clone, Copy, PartialEq, Eq, Debug)]
 pub enum BlockKind {
     Open,
     Enter,
@@ -13,32 +13,42 @@ pub enum BlockKind {
     Refute,
 }
 
-impl BlockKind {
-    // The kind of block with this number, if there is one.
-    pub fn from_number(number: u16) -> Option<BlockKind>
-        ensures { result ≡ block_kind number }
-    {
-        match number {
-            0 => Some(BlockKind::Open),
-            1 => Some(BlockKind::Enter),
-            2 => Some(BlockKind::Prove),
-            3 => Some(BlockKind::Refute),
-            _ => None,
-        }
-    }
+// A number that stands for no kind of block.
+#[derive(Clone, Copy, PartialEq, Eq, Debug)]
+pub struct UnknownBlock(pub u16);
 
-    // The number of this kind of block.
-    pub fn number(self) -> u16
-        ensures { result ≡ block_number self }
-    {
-        match self {
+// The number of a kind of block.
+impl From<BlockKind> for u16 {
+    ghost from_gives = { λ k n. n ≡ block_number k };
+
+    fn from(kind: BlockKind) -> u16 {
+        match kind {
             BlockKind::Open => 0,
             BlockKind::Enter => 1,
             BlockKind::Prove => 2,
             BlockKind::Refute => 3,
         }
     }
+}
 
+// The kind of block that a number stands for, if there is one.
+impl TryFrom<u16> for BlockKind {
+    type Error = UnknownBlock;
+
+    ghost try_from_gives = { AsksFor };
+
+    fn try_from(number: u16) -> Result<BlockKind, UnknownBlock> {
+        match number {
+            0 => Ok(BlockKind::Open),
+            1 => Ok(BlockKind::Enter),
+            2 => Ok(BlockKind::Prove),
+            3 => Ok(BlockKind::Refute),
+            _ => Err(UnknownBlock(number)),
+        }
+    }
+}
+
+impl BlockKind {
     // Whether a body of this size can be one of this kind: a number of principals is two bytes, a sequent's number the first two.
     pub fn takes(self, size: usize) -> bool
         ensures { result ≡ fits_block self size }
@@ -46,28 +56,23 @@ impl BlockKind {
         match self {
             BlockKind::Open => size == 2,
             BlockKind::Enter => true,
-            BlockKind::Prove => size >= 2,
-            BlockKind::Refute => size >= 2,
+            BlockKind::Prove | BlockKind::Refute => size >= 2,
         }
     }
 }
 
 // A block: what it asks for, and its body.
-#[derive(Clone, Copy)]
+#[derive(Clone, Copy, PartialEq, Eq, Debug)]
 pub struct Block<'a> {
     pub kind: BlockKind,
     pub body: &'a [u8],
 }
 
-// What is next in the input: nothing, bytes that are no block, or a block.
-#[derive(Clone, Copy)]
-pub enum Next<'a> {
-    End,
-    Stop,
-    Taken(Block<'a>),
-}
+// What comes next in the input is no block: its frame is broken, its kind unknown or its body of a wrong size.
+#[derive(Clone, Copy, PartialEq, Eq, Debug)]
+pub struct NoBlock;
 
-// The input that is still to be read.
+// The input that is still to be read. Not a `Cursor`, which counts the records of a file of at most 32,768 bytes: the input has no limit.
 #[derive(Drop)]
 pub struct BlockCursor<'a> {
     rest: &'a [u8],
@@ -88,25 +93,22 @@ impl<'a> BlockCursor<'a> {
         self.rest.len()
     }
 
-    // The next block; the cursor goes past it, and stays where there is none.
-    pub fn next(&mut self) -> Next<'a>
+    // The next block, and none at the end; the cursor goes past it, and stays where what comes next is no block.
+    pub fn next(&mut self) -> Result<Option<Block<'a>>, NoBlock>
         ensures { NextBlock self.old.rest.now result self.new.rest.now }
     {
-        let bytes = self.rest;
-        if bytes.len() == 0 {
-            return Next::End;
+        if self.rest.is_empty() {
+            return Ok(None);
         }
-        let Some((raw, rest)) = split_record(bytes) else {
-            return Next::Stop;
-        };
-        let Some(kind) = BlockKind::from_number(raw.kind) else {
-            return Next::Stop;
+        let (raw, rest) = split_record(self.rest).ok_or(NoBlock)?;
+        let Ok(kind) = BlockKind::try_from(raw.kind) else {
+            return Err(NoBlock);
         };
         let body = raw.body;
         if !kind.takes(body.len()) {
-            return Next::Stop;
+            return Err(NoBlock);
         }
         self.rest = rest;
-        Next::Taken(Block { kind, body })
+        Ok(Some(Block { kind, body }))
     }
 }
