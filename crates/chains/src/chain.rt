@@ -16,33 +16,18 @@ pub struct Chain<'a> {
     pub ending: Option<Refusal>,
 }
 
-// The chain of a file.
+// The chain of a file. A loop, since a refusal ends it and is kept, where `?` would lose the records before it.
 pub fn read_chain<'a>(heap: Global, file: File<'a>) -> Result<Chain<'a>, AllocError>
     ensures { IfOk result (λ c. Walked (bytes_of file.entry) c) }
 {
     let mut cursor = Cursor::new(file);
     let mut records = Vec::new(heap);
-    'reading: loop {
+    let ending = loop {
         match cursor.next() {
-            Err(refusal) => {
-                return Ok(Chain {
-                    records,
-                    ending: Some(refusal),
-                });
-            }
-            Ok(next) => match next {
-                None => {
-                    return Ok(Chain {
-                        records,
-                        ending: None,
-                    });
-                }
-                Some(raw) => {
-                    if records.push(raw).is_err() {
-                        return Err(AllocError);
-                    }
-                }
-            },
+            Ok(Some(record)) => records.push(record.raw)?,
+            Ok(None) => break None,
+            Err(refusal) => break Some(refusal),
         }
-    }
+    };
+    Ok(Chain { records, ending })
 }
