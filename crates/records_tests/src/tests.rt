@@ -1,62 +1,58 @@
 // Files of bytes against what the rules of records say of them, worked out by hand.
-use blocks::block::{BlockCursor, Next};
+use blocks::block::{BlockCursor, BlockKind, NoBlock};
 use chains::chain::read_chain;
 use kinds::facts::{ArrowFact, OrderFact};
 use kinds::formulas::{And, Falsity};
 use kinds::rows::{Ends, Stands};
 use records::file::File;
-use records::kind::decode;
+use records::kind::RecordKind;
 use records::numbers::RecordNumber;
+use records::record::{Numbered, RawRecord};
 use records::refusal::Refusal;
 use std::alloc::{AllocError, Global};
 use std::test::Fail;
 
-// How a file reads: how many records, and the refusal's two numbers, 0 and 0 for a whole chain.
+// A refusal's two numbers.
+fn numbers(refusal: Refusal) -> (u16, u16) {
+    (refusal.number(), refusal.second())
+}
+
+// How a file reads: how many records, and the two numbers of the refusal that ends it, none for a whole chain.
 #[derive(Clone, Copy, PartialEq, Debug)]
 struct Outcome {
     records: usize,
-    number: u16,
-    second: u16,
+    refused: Option<(u16, u16)>,
 }
 
-// Outcome the bytes as a file.
+// How the bytes read as a file.
 fn read_file(heap: Global, bytes: &[u8]) -> Result<Outcome, AllocError> {
-    if let Err(refusal) = File::check(bytes) {
-        return Ok(Outcome {
-            records: 0,
-            number: refusal.number(),
-            second: refusal.second(),
-        });
-    }
-    let chain = read_chain(heap, File::new(bytes))?;
-    let records = chain.records.len();
-    match chain.ending {
-        None => Ok(Outcome {
-            records,
-            number: 0,
-            second: 0,
-        }),
-        Some(refusal) => Ok(Outcome {
-            records,
-            number: refusal.number(),
-            second: refusal.second(),
-        }),
-    }
+    let file = match File::try_from(bytes) {
+        Ok(file) => file,
+        Err(refusal) => {
+            return Ok(Outcome {
+                records: 0,
+                refused: Some(numbers(refusal)),
+            });
+        }
+    };
+    let chain = read_chain(heap, file)?;
+    Ok(Outcome {
+        records: chain.records.len(),
+        refused: chain.ending.map(numbers),
+    })
 }
 
 fn whole(records: usize) -> Outcome {
     Outcome {
         records,
-        number: 0,
-        second: 0,
+        refused: None,
     }
 }
 
 fn broken(at: u16) -> Outcome {
     Outcome {
         records: usize::from(at),
-        number: 3,
-        second: at,
+        refused: Some((3, at)),
     }
 }
 
@@ -102,13 +98,7 @@ fn cut_bodies(rt: HostRuntime) -> Result<(), Fail> {
 #[test]
 fn longest_file(rt: HostRuntime) -> Result<(), Fail> {
     let heap = rt.alloc();
-    let mut bytes = Vec::new(heap);
-    for _ in 0..8192u16 {
-        bytes.push(2)?;
-        bytes.push(0)?;
-        bytes.push(2)?;
-        bytes.push(0)?;
-    }
+    let mut bytes = [2, 0, 2, 0].repeat(heap, 8192)?;
     assert_eq!(rt; bytes.len(), 32768);
     assert_eq!(rt; read_file(heap, bytes.as_slice())?, whole(8192));
     bytes.push(2)?;
@@ -116,102 +106,99 @@ fn longest_file(rt: HostRuntime) -> Result<(), Fail> {
         read_file(heap, bytes.as_slice())?,
         Outcome {
             records: 0,
-            number: 2,
-            second: 0,
+            refused: Some((2, 0)),
         }
     );
     Ok(())
 }
 
-fn size_refused<T: Drop>(r: Result<T, Refusal>) -> u16 {
-    match r {
-        Ok(_) => 0,
-        Err(refusal) => refusal
-            .number()
-            .wrapping_mul(100)
-            .wrapping_add(refusal.second()),
-    }
+// What the body of the record with this number holds, as one of kind `R`.
+fn decode<R: RecordKind>(body: &[u8], at: u16) -> Result<R::Content, Refusal> {
+    let raw = RawRecord {
+        kind: R::KIND,
+        body,
+    };
+    let record = Numbered {
+        at: RecordNumber(at),
+        raw,
+    };
+    record.decode::<R>()
+}
+
+// The two numbers by which record 5 is refused as one of kind `R` with this body; none where it is taken.
+fn size_refused<R: RecordKind<Content: Drop>>(body: &[u8]) -> Option<(u16, u16)> {
+    decode::<R>(body, 5).err().map(numbers)
 }
 
 #[test]
 fn bodies_of_the_wrong_size(rt: HostRuntime) {
-    let at = RecordNumber(5);
-    assert_eq!(rt; size_refused(decode::<Falsity>(&[], at)), 0);
-    assert_eq!(rt; size_refused(decode::<Falsity>(&[0], at)), 305);
-    assert_eq!(rt; size_refused(decode::<And>(&[1, 0, 2, 0], at)), 0);
-    assert_eq!(rt; size_refused(decode::<And>(&[1, 0, 2], at)), 305);
-    assert_eq!(rt; size_refused(decode::<And>(&[1, 0, 2, 0, 3], at)), 305);
+    assert_eq!(rt; size_refused::<Falsity>(&[]), None);
+    assert_eq!(rt; size_refused::<Falsity>(&[0]), Some((3, 5)));
+    assert_eq!(rt; size_refused::<And>(&[1, 0, 2, 0]), None);
+    assert_eq!(rt; size_refused::<And>(&[1, 0, 2]), Some((3, 5)));
+    assert_eq!(rt; size_refused::<And>(&[1, 0, 2, 0, 3]), Some((3, 5)));
 }
 
 #[test]
-fn fields_in_their_places(rt: HostRuntime) -> Result<(), Fail> {
-    let at = RecordNumber(0);
-    match decode::<ArrowFact>(&[6, 0, 1, 0, 2, 0, 3, 1], at) {
-        Err(_) => return Err(Fail::new("arrow")),
-        Ok(arrow) => {
-            assert_eq!(rt; arrow.modality.0, 6);
-            assert_eq!(rt; arrow.principal.0, 1);
-            assert_eq!(rt; arrow.from.0, 2);
-            assert_eq!(rt; arrow.to.0, 259);
-        }
-    }
-    match decode::<Ends>(&[9, 0, 7, 0, 31, 0, 1, 2, 3, 128], at) {
-        Err(_) => return Err(Fail::new("ends")),
-        Ok(row) => {
-            assert_eq!(rt; row.modality.0, 9);
-            assert_eq!(rt; row.principal.0, 7);
-            assert_eq!(rt; row.world.0, 31);
-            assert_eq!(rt; row.mask.0, 0x8003_0201);
-        }
-    }
-    match decode::<Stands>(&[1, 0, 30, 0], at) {
-        Err(_) => Err(Fail::new("place")),
-        Ok(place) => {
-            assert_eq!(rt; place.label.0, 1);
-            assert_eq!(rt; place.world.0, 30);
-            Ok(())
-        }
-    }
+fn fields_in_their_places(rt: HostRuntime) -> Result<(), Refusal> {
+    let arrow = decode::<ArrowFact>(&[6, 0, 1, 0, 2, 0, 3, 1], 0)?;
+    assert_eq!(rt; arrow.modality.0, 6);
+    assert_eq!(rt; arrow.principal.0, 1);
+    assert_eq!(rt; arrow.from.0, 2);
+    assert_eq!(rt; arrow.to.0, 259);
+    let row = decode::<Ends>(&[9, 0, 7, 0, 31, 0, 1, 2, 3, 128], 0)?;
+    assert_eq!(rt; row.modality.0, 9);
+    assert_eq!(rt; row.principal.0, 7);
+    assert_eq!(rt; row.world.0, 31);
+    assert_eq!(rt; row.mask.0, 0x8003_0201);
+    let place = decode::<Stands>(&[1, 0, 30, 0], 0)?;
+    assert_eq!(rt; place.label.0, 1);
+    assert_eq!(rt; place.world.0, 30);
+    Ok(())
 }
 
 #[test]
-fn order_goes_up(rt: HostRuntime) -> Result<(), Fail> {
-    match decode::<OrderFact>(&[4, 0, 5, 0], RecordNumber(0)) {
-        Err(_) => Err(Fail::new("order")),
-        Ok(order) => {
-            assert_eq!(rt; order.lower.0, 4);
-            assert_eq!(rt; order.upper.0, 5);
-            Ok(())
-        }
-    }
+fn order_goes_up(rt: HostRuntime) -> Result<(), Refusal> {
+    let order = decode::<OrderFact>(&[4, 0, 5, 0], 0)?;
+    assert_eq!(rt; order.lower.0, 4);
+    assert_eq!(rt; order.upper.0, 5);
+    Ok(())
 }
 
-// What comes next of an input: 0 the end, 1 stop, else 10 and the kind's number, and the bytes left.
-fn next_of(input: &[u8]) -> (u16, usize) {
+// What comes next of an input, a block by its kind, and the bytes left.
+fn next_of(input: &[u8]) -> (Result<Option<BlockKind>, NoBlock>, usize) {
     let mut cursor = BlockCursor::new(input);
-    let code = match cursor.next() {
-        Next::End => 0,
-        Next::Stop => 1,
-        Next::Taken(block) => 10 + block.kind.number(),
-    };
-    (code, cursor.left())
+    let next = cursor.next();
+    (next.map(|block| block.map(|b| b.kind)), cursor.left())
 }
 
 #[test]
 fn blocks(rt: HostRuntime) {
-    assert_eq!(rt; next_of(&[]), (0, 0));
-    assert_eq!(rt; next_of(&[4, 0, 0, 0, 1, 0]), (10, 0));
-    assert_eq!(rt; next_of(&[4, 0, 0, 0, 1, 0, 9]), (10, 1));
-    assert_eq!(rt; next_of(&[3, 0, 0, 0, 1]), (1, 5));
-    assert_eq!(rt; next_of(&[2, 0, 1, 0]), (11, 0));
-    assert_eq!(rt; next_of(&[4, 0, 2, 0, 1, 0]), (12, 0));
-    assert_eq!(rt; next_of(&[3, 0, 2, 0, 1]), (1, 5));
-    assert_eq!(rt; next_of(&[2, 0, 3, 0]), (1, 4));
-    assert_eq!(rt; next_of(&[4, 0, 3, 0, 1, 0]), (13, 0));
-    assert_eq!(rt; next_of(&[2, 0, 4, 0]), (1, 4));
-    assert_eq!(rt; next_of(&[1, 0, 1, 0]), (1, 4));
-    assert_eq!(rt; next_of(&[5, 0, 1, 0, 1, 0]), (1, 6));
-    assert_eq!(rt; next_of(&[5]), (1, 1));
+    assert_eq!(rt; next_of(&[]), (Ok(None), 0));
+    assert_eq!(rt;
+        next_of(&[4, 0, 0, 0, 1, 0]),
+        (Ok(Some(BlockKind::Open)), 0)
+    );
+    assert_eq!(rt;
+        next_of(&[4, 0, 0, 0, 1, 0, 9]),
+        (Ok(Some(BlockKind::Open)), 1)
+    );
+    assert_eq!(rt; next_of(&[3, 0, 0, 0, 1]), (Err(NoBlock), 5));
+    assert_eq!(rt; next_of(&[2, 0, 1, 0]), (Ok(Some(BlockKind::Enter)), 0));
+    assert_eq!(rt;
+        next_of(&[4, 0, 2, 0, 1, 0]),
+        (Ok(Some(BlockKind::Prove)), 0)
+    );
+    assert_eq!(rt; next_of(&[3, 0, 2, 0, 1]), (Err(NoBlock), 5));
+    assert_eq!(rt; next_of(&[2, 0, 3, 0]), (Err(NoBlock), 4));
+    assert_eq!(rt;
+        next_of(&[4, 0, 3, 0, 1, 0]),
+        (Ok(Some(BlockKind::Refute)), 0)
+    );
+    assert_eq!(rt; next_of(&[2, 0, 4, 0]), (Err(NoBlock), 4));
+    assert_eq!(rt; next_of(&[1, 0, 1, 0]), (Err(NoBlock), 4));
+    assert_eq!(rt; next_of(&[5, 0, 1, 0, 1, 0]), (Err(NoBlock), 6));
+    assert_eq!(rt; next_of(&[5]), (Err(NoBlock), 1));
 }
 
 #[test]
