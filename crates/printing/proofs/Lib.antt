@@ -1,4 +1,3 @@
 pub mod Decimal
 pub mod Reading
-pub mod Written
-pub mod Lengths
+pub mod Refused

@@ -1,2 +1,4 @@
 pub mod Numerals
 pub mod Lines
+pub mod Sinks
+pub mod SinkLaws

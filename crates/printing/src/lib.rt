@@ -3,5 +3,6 @@
 
 mod digits;
 pub mod line;
+mod sink;
 #[cfg(test)]
 mod tests;

@@ -7,18 +7,15 @@ use std::process::Abort;
 // The line, written into 24 dots from the place `at`, leaves `expected`, and `next` is the next free place.
 fn writes(rt: &impl Abort, line: Line, at: usize, next: usize, expected: &[u8]) {
     let mut buf = [b'.'; 24];
-    assert_eq!(rt; write_line(&mut buf, at, line).ok(), Some(next));
+    assert_eq!(rt; write_line(&mut buf, at, line), Ok(next));
     assert_eq!(rt; &buf[0..24], expected);
 }
 
 // The line is refused from the place `at` of 24 dots, with 20, and the dots stay.
 fn refuses(rt: &impl Abort, line: Line, at: usize) {
     let mut buf = [b'.'; 24];
-    let answer = match write_line(&mut buf, at, line) {
-        Ok(_) => 0,
-        Err(e) => e.number(),
-    };
-    assert_eq!(rt; answer, 20);
+    let refused = write_line(&mut buf, at, line).err();
+    assert_eq!(rt; refused.map(|e| e.number()), Some(20));
     let expected: &[u8] = b"........................";
     assert_eq!(rt; &buf[0..24], expected);
 }
@@ -139,7 +136,7 @@ fn places(rt: HostRuntime) {
 #[test]
 fn small_buffers(rt: HostRuntime) {
     let mut exact = [b'.'; 5];
-    assert_eq!(rt; write_line(&mut exact, 0, Line::Stop).ok(), Some(5));
+    assert_eq!(rt; write_line(&mut exact, 0, Line::Stop), Ok(5));
     let expected: &[u8] = b"stop\n";
     assert_eq!(rt; &exact[0..5], expected);
     let mut short = [b'.'; 4];

@@ -1,22 +1,21 @@
-use Rattle.std.proofs.Common.{length, ap, subst, arith}
+use Rattle.std.proofs.Common.{sym, subst}
 use Rattle.printing.specs.Lines.{spaced}
-use Rattle.printing.proofs.Lengths.{length_refused}
-use Rattle.printing.proofs.Written.{Wrote, wrote_more}
+use Rattle.records.specs.Refusals.{number_of, second_of}
 use Rattle.printing.proofs.line.put_refusal.Goals as goal
 
-pub put_spaced-a-requires : goal.put_spaced-a-requires
-put_spaced-a-requires c = omega (arith, length_refused c.args.e, ap (λ n. length (spaced n)) c.number-number.ensures)
-
 pub put_spaced-requires : goal.put_spaced-requires
-put_spaced-requires c = omega (arith, length_refused c.args.e, ap (λ n. length (spaced n)) c.number-number.ensures, ap (λ n. length (spaced n)) c.second-second.ensures)
+put_spaced-requires g c =
+    subst (λ n. g.S.Sink.can_take c.args.sink.now (spaced n)) (sym c.number-first.ensures)
+    (g.met.S.Sink.first _ (spaced (number_of c.args.e)) (spaced (second_of c.args.e)) c.requires)
+
+pub put_spaced-requires-2 : goal.put_spaced-requires-2
+put_spaced-requires-2 g c =
+    let one = rw c.number-first.ensures at c.put_spaced.ensures in
+    subst (λ n. g.S.Sink.can_take c.put_spaced.new.sink (spaced n)) (sym c.second-second.ensures)
+    (g.met.S.Sink.second _ _ (spaced (number_of c.args.e)) (spaced (second_of c.args.e)) c.requires one)
 
 pub returns : goal.returns
-returns c =
-    let one : Wrote c.args.buf.now c.args.at (spaced c.number-number.result) c.put_spaced-a.new.buf c.put_spaced-a.result = record { place = c.put_spaced-a.ensures.place; bytes = c.put_spaced-a.ensures.bytes } in
-    let two : Wrote c.put_spaced-a.new.buf c.put_spaced-a.result (spaced c.second-second.result) c.put_spaced.new.buf c.put_spaced.result = record { place = c.put_spaced.ensures.place; bytes = c.put_spaced.ensures.bytes } in
-    let all =
-    wrote_more
-    (omega arith)
-    (subst (λ n. Wrote c.args.buf.now c.args.at (spaced n) c.put_spaced-a.new.buf c.put_spaced-a.result) c.number-number.ensures one)
-    (subst (λ n. Wrote c.put_spaced-a.new.buf c.put_spaced-a.result (spaced n) c.put_spaced.new.buf c.put_spaced.result) c.second-second.ensures two) in
-    record { place = all.place; bytes = all.bytes }
+returns g c =
+    let one = rw c.number-first.ensures at c.put_spaced.ensures in
+    let two = rw c.second-second.ensures at c.put_spaced-2.ensures in
+    g.met.S.Sink.both _ _ _ (spaced (number_of c.args.e)) (spaced (second_of c.args.e)) c.requires one two
