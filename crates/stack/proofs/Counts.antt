@@ -1,6 +1,5 @@
 -- How many items a stack holds, what it has room for, and what it leaves. Assumes nothing.
-use Rattle.std.proofs.Common.{◌≡◌, ℕ, ◌-◌, ◌<◌, min, Bool, true, cond, ltb, List, [], ◌∷◌, ◌++◌, length, get_or, take, set, replicate, Some, sym, refl, ap, ◌∙◌, arith, length-take, MutBor, rules}
-use borrow.Author.Tests.{true-ltb}
+use Rattle.std.proofs.Common.{◌≡◌, ℕ, ◌-◌, ◌<◌, min, List, [], length, get_or, take, set, replicate, Some, sym, refl, ap, ◌∙◌, arith, length-take, MutBor}
 use Rattle.std.proofs.lemmas.Option.{slice_get-get_or}
 use Rattle.std.proofs.lemmas.List.{get_or-take, take-set, take-take}
 use Rattle.stack.specs.declared.stack.Stack.{Stack}
@@ -10,12 +9,6 @@ use Rattle.stack.specs.Stacks.{items, room, latest, before_latest, Same, Made}
 -- there are as many items as places in use
 pub count : {X : Type 0} (s : Stack X) → length (items s) ≡ s.len
 count s = let w = s.within in simp length-take (omega arith)
-
--- where there is room for one item more, the limit is not reached, and there is a free place
-pub fits : {X : Type 0} (s : Stack X) → true ≡ ltb (length (items s)) (room s) → (s.len < s.limit) × (s.len < length s.places.now)
-fits s e =
-    let under = true-ltb (length (items s)) (room s) e in
-    (omega (arith, count s), omega (arith, count s))
 
 -- the latest item lies in the last place in use
 pub latest_in_use : {X : Type 0} (s : Stack X) (d : X) → 0 < s.len → Some (get_or s.places.now (s.len - 1) d) ≡ latest (items s)
@@ -29,12 +22,6 @@ latest_in_use s d some =
 pub but_latest : {X : Type 0} (s : Stack X) (x : X) → take (s.len - 1) (set s.places.now (s.len - 1) x) ≡ before_latest (items s)
 but_latest s x =
     rw (count s) (take-set s.places.now (s.len - 1) x ∙ sym (take-take (s.len - 1) s.len s.places.now (omega arith)))
-
--- what a push does where there is room
-pub pushed : {X : Type 0} (s t : Stack X) (x : X) (r : Bool) → r ≡ ltb (length (items s)) (room s) → items t ≡ cond r (items s ++ x ∷ []) (items s) → length (items s) < room s → items t ≡ items s ++ x ∷ []
-pushed s t x r test is some =
-    let yes : r ≡ true = test ∙ search rules in
-    rw yes at is
 
 -- a stack keeps all with itself
 pub same_refl : {X : Type 0} (s : Stack X) → Same s s

@@ -7,9 +7,10 @@
 -- `emptied` gives the last alone (`Blanked`). The answer is `search (rules, cleared)`; a loop's invariant is
 -- `Same l.initial.s l.s`. It goes so where the type of the elements is a given one: a function that is itself generic in it
 -- is told only how many places come back.
-use Rattle.std.specs.Prelude.{◌≡◌, ℕ, ◌-◌, min, List, length, take, Option}
+use Rattle.std.specs.Prelude.{◌≡◌, ℕ, ◌-◌, ◌<◌, ◌≤◌, min, List, [], ◌∷◌, ◌++◌, length, take, Ok, Err, Option, Result}
 use Rattle.std.specs.Borrow.{MutBor}
 use Rattle.std.specs.List.{slice_get}
+use Rattle.stack.specs.declared.stack.NoRoom.{NoRoom}
 use Rattle.stack.specs.declared.stack.Stack.{Stack}
 
 -- the items in use, the oldest first
@@ -27,6 +28,11 @@ latest xs = slice_get xs (length xs - 1)
 -- all of a list of items but the latest
 abbrev pub before_latest : {X : Type 0} → List X → List X
 before_latest xs = take (length xs - 1) xs
+
+-- one item more, behind the others, where fewer are there than there is room for; else refused, with the items as they were
+abbrev pub Pushed : {X : Type 0} → ℕ → X → List X → Result (Unit {0}) NoRoom → List X → Type 0
+Pushed n x before (Ok _) after = (length before < n) × (after ≡ before ++ x ∷ [])
+Pushed n x before (Err _) after = (n ≤ length before) × (after ≡ before)
 
 -- t is over the same lent places as s, as many, with the same limit and the same blank value
 pub record Same {X : Type 0} (s t : Stack X) : Type 0 where

@@ -4,6 +4,7 @@ ghost use Rattle.stack.specs.Places.{Blanked};
 
 pub mod methods;
 
+// Lent places and not a `Vec`, since nothing here takes memory of its own.
 // A stack over lent places: the first `len` are in use, at most `limit` of them, and every other place is blank.
 #[derive(Drop)]
 pub struct Stack<'a, T> {
@@ -15,3 +16,7 @@ pub struct Stack<'a, T> {
     ghost few: { len ≤ limit },
     ghost free: { Blanked blank (drop len places.now) },
 }
+
+// There is no room for one item more.
+#[derive(Clone, Copy, PartialEq, Eq, Debug)]
+pub struct NoRoom;

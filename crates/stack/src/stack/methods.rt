@@ -1,13 +1,13 @@
 // What can be done with a stack. No method has anything to ask of its caller.
-ghost use Rattle.std.specs.Prelude.{◌≡◌, ◌≤◌, [], ◌∷◌, ◌++◌, length, take, if◌then◌else◌, nat_lt};
+ghost use Rattle.std.specs.Prelude.{◌≡◌, ◌≤◌, [], length, take, nat_lt};
 ghost use Rattle.std.specs.List.{slice_get};
 ghost use Rattle.stack.specs.Places.{Blanked, Cleared};
-ghost use Rattle.stack.specs.Stacks.{items, room, latest, before_latest, Same, Made};
+ghost use Rattle.stack.specs.Stacks.{items, room, latest, before_latest, Pushed, Same, Made};
 
 use crate::blank::Blank;
-use crate::stack::Stack;
+use crate::stack::{NoRoom, Stack};
 
-// Writes `blank` into every place.
+// Writes `blank` into every place. The library's `fill` clones, and of a copied type it isn't known that its clone can't fail.
 fn clear<T: Copy>(places: &mut [T], blank: T)
     ensures { Cleared blank places.old places.new }
 {
@@ -63,19 +63,17 @@ impl<'a, T: Copy> Stack<'a, T> {
         self.len() < self.room()
     }
 
-    // One item more; false, with no change, where there is no room.
-    pub fn push(&mut self, x: T) -> bool
-        ensures answer { result ≡ nat_lt (length (items self.old)) (room self.old) }
-        ensures items { items self.new ≡ (if result then items self.old ++ x ∷ [] else items self.old) }
+    // One item more; refused, with no change, where there is no room.
+    pub fn push(&mut self, x: T) -> Result<(), NoRoom>
+        ensures pushed { Pushed (room self.old) x (items self.old) result (items self.new) }
         ensures same { Same self.old self.new }
     {
         if !self.has_room() {
-            return false;
+            return Err(NoRoom);
         }
-        let at = self.len;
-        self.places[at] = x;
-        self.len = at + 1;
-        true
+        self.places[self.len] = x;
+        self.len += 1;
+        Ok(())
     }
 
     // The item at `i`, the oldest at 0; none where there is none.
@@ -113,8 +111,9 @@ impl<'a, T: Copy> Stack<'a, T> {
         ensures items { items self.new ≡ take to (items self.old) }
         ensures same { Same self.old self.new }
     {
-        while to < self.len {
-            let _ = self.pop();
+        if to < self.len {
+            clear(&mut self.places[to..self.len], self.blank);
+            self.len = to;
         }
     }
 
