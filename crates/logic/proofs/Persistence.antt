@@ -1,6 +1,6 @@
 -- Persistence: what holds at a world holds above it. Assumes nothing.
 use mathlib.Core.Logic.{⊎_map}
-use Rattle.std.proofs.Common.{ℕ, ◌<◌, T}
+use Rattle.std.proofs.Common.{arith, ℕ, ◌<◌, T}
 use Rattle.logic.specs.declared.terms.Modality.{Modality}
 use Rattle.logic.specs.declared.terms.Modality.TheVariants.{Says, Controls, Ratified, Permitted}
 use Rattle.logic.specs.Models.{Formula, Model, holds, atom, falsity, and, or, implies, modal}
@@ -14,14 +14,12 @@ module _ (P : ℕ) (m : Model) (keeps : Keeps P m) where
   -- every end of an arrow from y is one from each x below it
   universal_up : (k : Modality) → T (universal k) → (A : ℕ) (f : Formula) → A < P → Upward m.frame (holds m (modal k A f))
   universal_up k u A f hA x hx y hy o t =
-      (holds_universal m k u A f y).1 (λ z hz a. (holds_universal m k u A f x).0 t z hz (keeps.regular.monotone k u A hA x hx y hy z hz z hz o a (keeps.regular.reflexive z hz)))
+      grind (arith, holds_universal, keeps.regular.monotone k u A hA x hx y hy, keeps.regular.reflexive)
 
   -- an end of a permitted arrow from x is one from each y above it
   permitted_up : (A : ℕ) (f : Formula) → A < P → Upward m.frame (holds m (modal Permitted A f))
   permitted_up A f hA x hx y hy o t =
-      let e = (holds_permitted m A f x).0 t in
-      let up = keeps.regular.reflexive e.0 e.1 in
-      (holds_permitted m A f y).1 (e.0, e.1, keeps.regular.monotone_permitted A hA e.0 e.1 e.0 e.1 x hx y hy up e.2 o, e.3)
+      grind (arith, holds_permitted, keeps.regular.reflexive, keeps.regular.monotone_permitted A hA)
 
   -- by the signs of the formula
   up : (f : Formula) → Principals P f → Upward m.frame (holds m f)

@@ -1,7 +1,8 @@
 -- A search through all standings of a sequent's labels. Assumes nothing.
-use Rattle.std.proofs.Common.{◌≡◌, ℕ, zero, suc, ◌<◌, ◌≤◌, Bool, cond, not, T, eqb, ◌⊎◌, List, [], ◌∷◌, sym, refl, ap, ◌∙◌, subst, ap₂, inl, inr, arith}
+use Rattle.std.proofs.Common.{◌≡◌, ℕ, zero, suc, ◌<◌, ◌≤◌, Bool, cond, not, T, eqb, ◌⊎◌, List, [], ◌∷◌, sym, refl, ap, ◌∙◌, inl, inr, arith}
 use Rattle.std.specs.List.{AllByRecursion}
-use Rattle.std.proofs.lemmas.Bool.{eq-eqb, ne_eqb, cases_eq}
+use Rattle.std.proofs.lemmas.Bool.{cases_eq}
+use Rattle.std.proofs.lemmas.Bool.Decides.{nat_tests}
 use Rattle.records.specs.declared.numbers.Label.{Label}
 use Rattle.logic.specs.declared.terms.Link.{Link}
 use Rattle.logic.specs.declared.terms.Link.TheVariants.{Order, Arrow}
@@ -15,16 +16,7 @@ use Rattle.logic.proofs.Bools.{T_cases, not_all}
 -- of two choices at every number below n: somewhere the first, or everywhere the second
 pub search_below : (n : ℕ) (P Q : ℕ → Type 0) → ((w : ℕ) → w < n → P w ⊎ Q w) → ((w : ℕ) × (w < n) × P w) ⊎ ((w : ℕ) → w < n → Q w)
 search_below zero P Q choose = inr (λ w h. absurd (omega arith))
-search_below (suc n) P Q choose = go (choose n (omega arith)) (search_below n P Q (λ w h. choose w (omega arith)))
-  where
-    last : Q n → ((w : ℕ) → w < n → Q w) → (w : ℕ) → w < suc n → (w ≡ n) ⊎ (w ≡ n → ⊥) → Q w
-    last q qs w h (inl e) = subst Q (sym e) q
-    last q qs w h (inr d) = qs w (omega arith)
-
-    go : P n ⊎ Q n → ((w : ℕ) × (w < n) × P w) ⊎ ((w : ℕ) → w < n → Q w) → ((w : ℕ) × (w < suc n) × P w) ⊎ ((w : ℕ) → w < suc n → Q w)
-    go (inl p) others = inl (n, omega arith, p)
-    go (inr q) (inl e) = inl (e.0, omega arith, e.2)
-    go (inr q) (inr qs) = inr (λ w h. last q qs w h (cases_eq w n))
+search_below (suc n) P Q choose = grind (arith, choose n, search_below n P Q)
 
 -- the standing with label n at world w
 abbrev pub extend : Standing → ℕ → ℕ → Standing
@@ -32,11 +24,11 @@ extend σ n w x = cond (eqb x.0 n) (record { 0 = w }) (σ x)
 
 -- it has that label there
 pub extend_new : (σ : Standing) (n w : ℕ) (x : Label) → x.0 ≡ n → (extend σ n w x).0 ≡ w
-extend_new σ n w x e = ap (λ (b : Bool). (cond b (record { 0 = w }) (σ x)).0) (eq-eqb x.0 n e)
+extend_new σ n w x e = grind (arith, nat_tests)
 
 -- and every other label where it was
 pub extend_old : (σ : Standing) (n w : ℕ) (x : Label) → (x.0 ≡ n → ⊥) → (extend σ n w x).0 ≡ (σ x).0
-extend_old σ n w x d = ap (λ (b : Bool). (cond b (record { 0 = w }) (σ x)).0) (ne_eqb x.0 n d)
+extend_old σ n w x d = grind (arith, nat_tests)
 
 -- two standings put the labels from k to n − 1 at the same worlds
 abbrev pub Agree : ℕ → ℕ → Standing → Standing → Type 0
@@ -44,31 +36,26 @@ Agree k n σ τ = (x : Label) → k ≤ x.0 → x.0 < n → (τ x).0 ≡ (σ x).
 
 -- a link reads only the worlds of its own labels
 linked_same : (F : Frame) (n : ℕ) (σ τ : Standing) → Agree 0 n σ τ → (l : Link) → LinkLabels n l → linked F τ l ≡ linked F σ l
-linked_same F n σ τ agree (Order x y) h = ap₂ (λ (u v : ℕ). F.above u v) (agree x (omega arith) h.0) (agree y (omega arith) h.1)
-linked_same F n σ τ agree (Arrow k A x y) h = ap₂ (λ (u v : ℕ). F.arrow k A.0 u v) (agree x (omega arith) h.0) (agree y (omega arith) h.1)
+linked_same F n σ τ agree (Order x y) h = grind (arith, agree x, agree y)
+linked_same F n σ τ agree (Arrow k A x y) h = grind (arith, agree x, agree y)
 
 -- a fact reads only the worlds of its own labels
 pub falsifies_same : (m : Model) (n : ℕ) (σ τ : Standing) → Agree 0 n σ τ → (fact : FactView Formula) → FactLabels n fact → falsifies m τ fact ≡ falsifies m σ fact
-falsifies_same m n σ τ agree (Left x f) h = ap (λ (u : ℕ). holds m f u) (agree x (omega arith) h)
-falsifies_same m n σ τ agree (Right x f) h = ap (λ (u : ℕ). not (holds m f u)) (agree x (omega arith) h)
+falsifies_same m n σ τ agree (Left x f) h = grind (arith, agree x)
+falsifies_same m n σ τ agree (Right x f) h = grind (arith, agree x)
 falsifies_same m n σ τ agree (Linked l) h = linked_same m.frame n σ τ agree l h
 
 -- so a standing that some fact does not falsify tells the same of each that agrees with it
 exists_same : (m : Model) (n : ℕ) (σ τ : Standing) → Agree 0 n σ τ → (facts : List (FactView Formula)) → AllByRecursion (FactLabels n) facts
     → Exists (λ fact. T (not (falsifies m σ fact))) facts → Exists (λ fact. T (not (falsifies m τ fact))) facts
 exists_same m n σ τ agree [] h e = e
-exists_same m n σ τ agree (fact ∷ facts) h (inl t) = inl (subst (λ (b : Bool). T (not b)) (sym (falsifies_same m n σ τ agree fact h.0)) t)
+exists_same m n σ τ agree (fact ∷ facts) h (inl t) = inl (rw (falsifies_same m n σ τ agree fact h.0) t)
 exists_same m n σ τ agree (fact ∷ facts) h (inr e) = inr (exists_same m n σ τ agree facts h.1 e)
 
 -- every element passes, or some fails
 all_or_some : {X : Type 0} (p : X → Bool) (xs : List X) → AllByRecursion (λ x. T (p x)) xs ⊎ Exists (λ x. T (not (p x))) xs
 all_or_some p [] = inl tt
-all_or_some p (x ∷ xs) = go (T_cases (p x)) (all_or_some p xs)
-  where
-    go : T (p x) ⊎ T (not (p x)) → AllByRecursion (λ y. T (p y)) xs ⊎ Exists (λ y. T (not (p y))) xs → AllByRecursion (λ y. T (p y)) (x ∷ xs) ⊎ Exists (λ y. T (not (p y))) (x ∷ xs)
-    go (inl t) (inl a) = inl (t, a)
-    go (inl t) (inr e) = inr (inr e)
-    go (inr t) others = inr (inl t)
+all_or_some p (x ∷ xs) = grind (arith, T_cases (p x), all_or_some p xs)
 
 module _ (m : Model) (s : Sequent) (own : Labelled s) where
   -- the standing falsifies every fact

@@ -1,8 +1,8 @@
 -- The clauses of truth in plain words. Assumes nothing.
-use Rattle.std.proofs.Common.{ℕ, ◌<◌, Bool, not, ◌&&◌, T, ◌⊎◌, ◌↔◌}
+use Rattle.std.proofs.Common.{arith, ℕ, ◌<◌, Bool, not, T, ◌⊎◌, ◌↔◌}
 use mathlib.Core.Logic.Iff
 use Rattle.logic.specs.declared.terms.Modality.{Modality}
-use Rattle.logic.specs.declared.terms.Modality.TheVariants.{Says, Controls, Ratified, Permitted}
+use Rattle.logic.specs.declared.terms.Modality.TheVariants.{Permitted}
 use Rattle.logic.specs.Models.{Formula, Model, every, ◌⊃◌, holds, implies, modal}
 use Rattle.logic.specs.ModelRules.{Each, universal}
 use Rattle.logic.specs.Truth.{TruthReads}
@@ -10,41 +10,24 @@ use Rattle.logic.proofs.Bools.{T_and, T_or, T_if, T_every, T_any, T_either}
 
 -- a test at the ends of arrows
 pub ends_every : (n : ℕ) (r p : ℕ → Bool) → T (every n (λ y. r y ⊃ p y)) ↔ ((y : ℕ) → y < n → T (r y) → T (p y))
-ends_every n r p = (
-  λ t y h. (T_if (r y) (p y)).0 ((T_every n (λ z. r z ⊃ p z)).0 t y h),
-  λ k. (T_every n (λ z. r z ⊃ p z)).1 (λ y h. (T_if (r y) (p y)).1 (k y h)),
-)
+ends_every n r p = grind (arith, T_if, T_every)
 
 module _ (m : Model) where
   -- at every world above x where f holds, g does
   pub holds_implies : (f g : Formula) (x : ℕ) → T (holds m (implies f g) x) ↔ Each m.frame (λ y. T (m.frame.above x y) → T (holds m f y) → T (holds m g y))
-  holds_implies f g x = (
-    λ t y h u. (T_if (holds m f y) (holds m g y)).0 ((ends_every m.frame.worlds (m.frame.above x) (λ z. holds m f z ⊃ holds m g z)).0 t y h u),
-    λ k. (ends_every m.frame.worlds (m.frame.above x) (λ z. holds m f z ⊃ holds m g z)).1 (λ y h u. (T_if (holds m f y) (holds m g y)).1 (k y h u)),
-  )
+  holds_implies f g x = grind (arith, T_if, ends_every m.frame.worlds (m.frame.above x) (λ z. holds m f z ⊃ holds m g z))
 
   -- at every world above x, f fails or g holds
   pub fails_or_holds : (f g : Formula) (x : ℕ) → T (holds m (implies f g) x) ↔ Each m.frame (λ y. T (m.frame.above x y) → T (not (holds m f y)) ⊎ T (holds m g y))
-  fails_or_holds f g x = (
-    λ t y h u. (T_either (holds m f y) (holds m g y)).0 ((holds_implies f g x).0 t y h u),
-    λ k. (holds_implies f g x).1 (λ y h u. (T_either (holds m f y) (holds m g y)).1 (k y h u)),
-  )
+  fails_or_holds f g x = grind (arith, T_either, holds_implies)
 
   -- says, controls and ratified: at every end of an arrow from x
   pub holds_universal : (k : Modality) → T (universal k) → (A : ℕ) (f : Formula) (x : ℕ) → T (holds m (modal k A f) x) ↔ Each m.frame (λ y. T (m.frame.arrow k A x y) → T (holds m f y))
-  holds_universal Says u A f x = ends_every m.frame.worlds (λ y. m.frame.arrow Says A x y) (λ y. holds m f y)
-  holds_universal Controls u A f x = ends_every m.frame.worlds (λ y. m.frame.arrow Controls A x y) (λ y. holds m f y)
-  holds_universal Ratified u A f x = ends_every m.frame.worlds (λ y. m.frame.arrow Ratified A x y) (λ y. holds m f y)
-  holds_universal Permitted u A f x = absurd u
+  holds_universal k u A f x = grind (arith, ends_every)
 
   -- permitted: at some end of an arrow from x
   pub holds_permitted : (A : ℕ) (f : Formula) (x : ℕ) → T (holds m (modal Permitted A f) x) ↔ ((y : ℕ) × (y < m.frame.worlds) × T (m.frame.arrow Permitted A x y) × T (holds m f y))
-  holds_permitted A f x = (
-    λ t. let e = (T_any m.frame.worlds (λ y. m.frame.arrow Permitted A x y && holds m f y)).0 t in
-        let p = (T_and (m.frame.arrow Permitted A x e.0) (holds m f e.0)).0 e.2 in
-        (e.0, e.1, p.0, p.1),
-    λ e. (T_any m.frame.worlds (λ y. m.frame.arrow Permitted A x y && holds m f y)).1 (e.0, e.1, (T_and (m.frame.arrow Permitted A x e.0) (holds m f e.0)).1 (e.2, e.3)),
-  )
+  holds_permitted A f x = grind (arith, T_any, T_and)
 
 pub truth_reads : TruthReads
 truth_reads m = record {

@@ -5,5 +5,4 @@ pub mod Formulas
 pub mod Facts
 pub mod Truth
 pub mod Stored
-pub mod NodeLists
 pub mod Tables

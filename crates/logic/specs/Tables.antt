@@ -1,5 +1,6 @@
 -- The nodes of a formula table, and what its calls answer. Assumes nothing.
 use Rattle.std.specs.Prelude.{◌≡◌, ◌<◌, cond, List, [], ◌∷◌, ◌++◌, length, Some, None, Ok, Err, Option, Result, nat_lt, slice_index_or}
+use Rattle.lists.specs.Listed.{listed}
 use Rattle.records.specs.declared.numbers.FormulaNumber.{FormulaNumber}
 use Rattle.logic.specs.declared.terms.Node.{Node}
 use Rattle.logic.specs.declared.terms.Node.TheVariants.{Falsity}
@@ -7,7 +8,6 @@ use Rattle.logic.specs.declared.table.PushError.{PushError}
 use Rattle.logic.specs.declared.table.PushError.TheVariants.{Part, Full}
 use Rattle.logic.specs.declared.table.FormulaTable.{FormulaTable}
 use Rattle.logic.specs.Formulas.{tree, falls}
-use Rattle.logic.specs.NodeLists.{listed}
 
 -- the nodes of a table, by number
 abbrev pub nodes_of : FormulaTable → List (Node FormulaNumber)

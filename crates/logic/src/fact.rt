@@ -1,13 +1,13 @@
 // A fact as it lies in lent slices.
 ghost use Rattle.std.specs.Prelude.{◌≡◌, Decides};
-ghost use Rattle.logic.specs.Stored.{stored_formula, stored_link, stored, view_of, no_fact};
+ghost use Rattle.logic.specs.Stored.{stored, view_of, no_fact};
 
 use crate::terms::{FactView, Link, Modality};
 use records::numbers::{FormulaNumber, Label, Principal};
 use stack::blank::Blank;
 
 // What a fact is; `Blank` of a place with none.
-#[derive(Clone, Copy)]
+#[derive(Clone, Copy, PartialEq, Eq, Debug)]
 pub enum FactSort {
     Blank,
     Left,
@@ -16,8 +16,8 @@ pub enum FactSort {
     Arrow(Modality),
 }
 
-// Numbers that a sort does not use are 0.
-#[derive(Clone, Copy)]
+// Numbers that a sort does not use are 0. No enum with numbers of its own in each case: lent places go back wiped to zeros, and the fact of zeros is the blank one.
+#[derive(Clone, Copy, PartialEq, Eq, Debug)]
 pub struct Fact {
     pub sort: FactSort,
     pub principal: Principal,
@@ -26,50 +26,43 @@ pub struct Fact {
     pub formula: FormulaNumber,
 }
 
-impl Fact {
-    // Formula f at label x.
-    fn formula_at(sort: FactSort, x: Label, f: FormulaNumber) -> Fact
-        ensures { result ≡ stored_formula sort x f }
-    {
-        Fact {
-            sort,
-            principal: Principal(0),
-            x,
-            y: Label(0),
-            formula: f,
-        }
-    }
+// The fact that says this.
+impl From<FactView<FormulaNumber>> for Fact {
+    ghost from_gives = { λ view fact. fact ≡ stored view };
 
-    // A link from label x to label y.
-    fn link_of(sort: FactSort, principal: Principal, x: Label, y: Label) -> Fact
-        ensures { result ≡ stored_link sort principal x y }
-    {
-        Fact {
-            sort,
-            principal,
-            x,
-            y,
-            formula: FormulaNumber(0),
-        }
-    }
-
-    // The fact that says this.
-    pub fn of(view: FactView<FormulaNumber>) -> Fact
-        ensures { result ≡ stored view }
-    {
+    fn from(view: FactView<FormulaNumber>) -> Fact {
+        let blank = Fact::blank();
         match view {
-            FactView::Left(x, f) => Fact::formula_at(FactSort::Left, x, f),
-            FactView::Right(x, f) => Fact::formula_at(FactSort::Right, x, f),
-            FactView::Linked(Link::Order(x, y)) => Fact::link_of(
-                FactSort::Order,
-                Principal(0),
+            FactView::Left(x, formula) => Fact {
+                sort: FactSort::Left,
+                x,
+                formula,
+                ..blank
+            },
+            FactView::Right(x, formula) => Fact {
+                sort: FactSort::Right,
+                x,
+                formula,
+                ..blank
+            },
+            FactView::Linked(Link::Order(x, y)) => Fact {
+                sort: FactSort::Order,
                 x,
                 y,
-            ),
-            FactView::Linked(Link::Arrow(k, a, x, y)) => Fact::link_of(FactSort::Arrow(k), a, x, y),
+                ..blank
+            },
+            FactView::Linked(Link::Arrow(k, principal, x, y)) => Fact {
+                sort: FactSort::Arrow(k),
+                principal,
+                x,
+                y,
+                ..blank
+            },
         }
     }
+}
 
+impl Fact {
     // What the fact says, if it is one.
     pub fn view(self) -> Option<FactView<FormulaNumber>>
         ensures { result ≡ view_of self }
@@ -92,13 +85,7 @@ impl Fact {
     pub fn is_blank(self) -> bool
         ensures { Decides result (self ≡ no_fact) }
     {
-        match self.sort {
-            FactSort::Blank => self.principal.0 == 0
-                && self.x.0 == 0
-                && self.y.0 == 0
-                && self.formula.0 == 0,
-            _ => false,
-        }
+        self == Fact::blank()
     }
 }
 

@@ -1,2 +1,2 @@
-pub mod Used
+pub mod AsStored
 pub mod Sequents

@@ -2,5 +2,4 @@
 #![tactic(auto)]
 
 pub mod list;
-mod rows;
 pub mod sequent;

@@ -1,8 +1,10 @@
 // The facts of a sequent: at most 16, none of them blank.
-ghost use Rattle.std.specs.Prelude.{◌≡◌, ◌≤◌, true, length};
-ghost use Rattle.sequents.specs.Used.{used, all_stored};
+ghost use Rattle.std.specs.Prelude.{◌≡◌, true};
+ghost use Rattle.lists.specs.Listed.{listed};
+ghost use Rattle.sequents.specs.AsStored.{all_stored};
 
-use crate::rows::FactRows;
+use lists::fixed::FixedList;
+use logic::fact::Fact;
 
 mod methods;
 
@@ -11,8 +13,6 @@ pub const MAX_FACTS: usize = 16;
 
 #[derive(Clone, Copy)]
 pub struct FactList {
-    rows: FactRows,
-    ghost whole: { length rows.facts ≡ 16 },
-    ghost room: { rows.len ≤ 16 },
-    ghost proper: { all_stored (used rows) ≡ true },
+    facts: FixedList<Fact, MAX_FACTS>,
+    ghost proper: { all_stored (listed facts) ≡ true },
 }

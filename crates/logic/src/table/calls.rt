@@ -3,16 +3,16 @@ ghost use Rattle.std.specs.Prelude.{◌≡◌, ◌≤◌, [], ◌∷◌, ◌++�
 ghost use Rattle.logic.specs.Formulas.{falls};
 ghost use Rattle.logic.specs.Tables.{nodes_of, node_at, push_answer, pushed, TreesKept};
 
-use crate::table::nodes::NodeList;
-use crate::table::{FormulaTable, MAX_FORMULAS, PushError};
+use crate::table::{FormulaTable, PushError};
 use crate::terms::Node;
+use lists::fixed::FixedList;
 use records::numbers::FormulaNumber;
 
 // Whether a number is below `at`.
 fn below(f: FormulaNumber, at: usize) -> bool
     ensures { result ≡ nat_lt f.0 at }
 {
-    (f.0 as usize) < at
+    usize::from(f.0) < at
 }
 
 // Whether the parts of a node have numbers below `at`.
@@ -20,11 +20,8 @@ fn parts_below(node: Node<FormulaNumber>, at: usize) -> bool
     ensures { result ≡ falls at node }
 {
     match node {
-        Node::Atom(_) => true,
-        Node::Falsity => true,
-        Node::And(f, g) => below(f, at) && below(g, at),
-        Node::Or(f, g) => below(f, at) && below(g, at),
-        Node::Implies(f, g) => below(f, at) && below(g, at),
+        Node::Atom(_) | Node::Falsity => true,
+        Node::And(f, g) | Node::Or(f, g) | Node::Implies(f, g) => below(f, at) && below(g, at),
         Node::Modal(_, _, f) => below(f, at),
     }
 }
@@ -35,7 +32,7 @@ impl FormulaTable {
         ensures { nodes_of result ≡ [] }
     {
         FormulaTable {
-            list: NodeList::new(),
+            list: FixedList::new(Node::Falsity),
         }
     }
 
@@ -44,22 +41,18 @@ impl FormulaTable {
         ensures count { result ≡ length (nodes_of self.now) }
         ensures most { result ≤ 256 }
     {
-        self.list.len
+        self.list.len()
     }
 
     // The node of a formula, if the table has that number.
     pub fn node(&self, formula: FormulaNumber) -> Option<Node<FormulaNumber>>
         ensures { result ≡ node_at (nodes_of self.now) formula }
     {
-        let i = formula.0 as usize;
-        if i < self.len() {
-            Some(self.list.nodes[i])
-        } else {
-            None
-        }
+        self.list.get(usize::from(formula.0))
     }
 
     // One formula more, and its number; refused where a part has no number yet, or else there is no room.
+    #[tactic(auto, using(crate::proofs::Pushes::push_falls, crate::proofs::Pushes::push_trees))]
     pub fn push(&mut self, node: Node<FormulaNumber>) -> Result<FormulaNumber, PushError>
         ensures answer { result ≡ push_answer (nodes_of self.old) node }
         ensures after { nodes_of self.new ≡ pushed (nodes_of self.old) node result }
@@ -69,14 +62,12 @@ impl FormulaTable {
         if !parts_below(node, at) {
             return Err(PushError::Part);
         }
-        if at >= MAX_FORMULAS {
-            return Err(PushError::Full);
-        }
-        self.list.push(node);
+        self.list.push(node).map_err(|_| PushError::Full)?;
         Ok(FormulaNumber(at as u16))
     }
 
     // Back to the first `len` formulas.
+    #[tactic(auto, using(crate::proofs::Falling::all_fall_take))]
     pub fn cut(&mut self, len: usize)
         ensures { nodes_of self.new ≡ take len (nodes_of self.old) }
     {

@@ -1,13 +1,9 @@
--- The facts in use, and what it means that none of them is blank. Assumes nothing.
-use Rattle.std.specs.Prelude.{Bool, true, false, ◌&&◌, List, [], ◌∷◌, take, ◌==◌}
+-- What it means that facts are as they are stored, and none of them is blank. Assumes nothing.
+use Rattle.std.specs.Prelude.{Bool, false, ◌&&◌, List, ◌==◌}
+use Rattle.std.specs.List.{list_all}
 use Rattle.logic.specs.declared.fact.Fact.{Fact}
 use Rattle.logic.specs.declared.fact.FactSort.{FactSort}
 use Rattle.logic.specs.declared.fact.FactSort.TheVariants.{Blank, Left, Right, Order, Arrow}
-use Rattle.sequents.specs.declared.rows.FactRows.{FactRows}
-
--- the facts in use
-abbrev pub used : FactRows → List Fact
-used r = take r.len r.facts
 
 -- a fact of this sort says something, and the numbers that it does not use are 0
 abbrev pub stored_as : FactSort → Fact → Bool
@@ -19,5 +15,4 @@ stored_as (Arrow k) f = f.formula.0 == 0
 
 -- every fact is as it is stored, and so none is blank
 abbrev pub all_stored : List Fact → Bool
-all_stored [] = true
-all_stored (f ∷ fs) = stored_as f.sort f && all_stored fs
+all_stored fs = list_all (λ f. stored_as f.sort f) fs
