@@ -1,11 +1,12 @@
 -- A dossier is taken exactly when its records are those of formulas, a label count and facts. Assumes nothing.
-use Rattle.std.proofs.Common.{◌≡◌, ℕ, ◌+◌, ◌<◌, Bool, true, false, cond, eqb, ltb, ◌⊎◌, List, [], ◌∷◌, ◌++◌, length, Some, None, Ok, Err, Option, Result, sym, refl, ap, ◌∙◌, subst, inl, inr, ⊎_elim, arith}
-use Rattle.std.proofs.lemmas.Bool.{cond-true, cond-false, eqb-true, eq-eqb, ltb-true, lt-ltb}
+use Rattle.std.proofs.Common.{rules, ◌≡◌, ℕ, ◌+◌, ◌<◌, Bool, true, false, cond, eqb, ltb, ◌⊎◌, List, [], ◌∷◌, ◌++◌, length, Some, None, Ok, Err, Option, Result, sym, refl, ap, ◌∙◌, subst, inl, inr, ⊎_elim, arith}
+use Rattle.std.proofs.lemmas.Grind.{common_steps}
+use Rattle.std.proofs.lemmas.Bool.{eqb-true, ltb-true}
 use Rattle.records.specs.declared.numbers.FormulaNumber.{FormulaNumber}
 use Rattle.records.specs.declared.numbers.LabelCount.{LabelCount}
 use Rattle.records.specs.declared.numbers.RecordNumber.{RecordNumber}
 use Rattle.records.specs.declared.refusal.Refusal.{Refusal}
-use Rattle.records.specs.declared.refusal.Refusal.TheVariants.{Frame, Kind, OutOfRange, Full}
+use Rattle.records.specs.declared.refusal.Refusal.TheVariants.{Kind, OutOfRange, Full}
 use Rattle.records.specs.Chains.{Record, chain}
 use Rattle.records.specs.Kinds.{decoded}
 use Rattle.records.specs.Readers.{Reader, at_end, followed, read_on, read_bytes}
@@ -26,12 +27,11 @@ use Rattle.dossiers.specs.Laws.{rec, FormulaRecord, atom, falsity, and, or, impl
 
 -- an answer is not a refusal
 never : {X : Type 0} {A : Type 0} (e : Refusal) (x : X) → Err e ≡ Ok x → A
-never e x is = let z : ◌≡◌ {A = ℕ} 0 1 = cc in absurd (omega arith)
+never e x is = absurd cc
 
 -- a test that refuses was passed
 passed : {X : Type 0} (b : Bool) (x : Result X Refusal) (e : Refusal) (y : X) → cond b x (Err e) ≡ Ok y → (b ≡ true) × (x ≡ Ok y)
-passed true x e y is = (refl, is)
-passed false x e y is = never e y is
+passed b x e y is = grind arith
 
 -- what went on came from something read
 record Went {X Y : Type 0} (m : Result X Refusal) (f : X → Result Y Refusal) (y : Y) : Type 0 where
@@ -46,16 +46,12 @@ went (Err e) f y is = never e y is
 -- a body that is read has the size of its kind
 sized : {X Y : Type 0} (size : ℕ) (content : List ℕ → X) (b : List ℕ) (at : RecordNumber) (f : X → Result Y Refusal) (y : Y)
     → onward (decoded size content b at) f ≡ Ok y → (length b ≡ size) × (f (content b) ≡ Ok y)
-sized {X} {Y} size content b at f y = go (eqb (length b) size) refl
-  where
-    go : (t : Bool) → eqb (length b) size ≡ t → onward (cond t (Ok (content b)) (Err (Frame at))) f ≡ Ok y → (length b ≡ size) × (f (content b) ≡ Ok y)
-    go true fits is = (eqb-true (length b) size fits, is)
-    go false fits is = never (Frame at) y is
+sized size content b at f y is = grind arith
 
 -- a body that has the size of its kind is read
 reads : {X Y : Type 0} (size : ℕ) (content : List ℕ → X) (b : List ℕ) (at : RecordNumber) (f : X → Result Y Refusal)
     → length b ≡ size → onward (decoded size content b at) f ≡ f (content b)
-reads size content b at f fits = ap (λ t. onward (cond t (Ok (content b)) (Err (Frame at))) f) (eq-eqb (length b) size fits)
+reads size content b at f fits = grind arith
 
 -- what a body of one kind is made into
 made : {X Y : Type 0} (size : ℕ) (content : List ℕ → X) (b : List ℕ) (at : RecordNumber) (f : X → Y) (y : Y) (Q : Y → Type 0)
@@ -66,10 +62,12 @@ made size content b at f y Q holds is =
     subst Q same (holds s.0)
 
 -- one kind tried: it is this one, or the rest tells
-tried : {Y : Type 0} (kind j : ℕ) (x rest : Result Y Refusal) (y : Y) (Q : ℕ → Type 0) → (x ≡ Ok y → Q j) → (rest ≡ Ok y → Q kind)
-    → (b : Bool) → eqb kind j ≡ b → cond b x rest ≡ Ok y → Q kind
-tried kind j x rest y Q this others true t is = subst Q (sym (eqb-true kind j t)) (this is)
-tried kind j x rest y Q this others false t is = others is
+tried : {Y : Type 0} (kind j : ℕ) (x rest : Result Y Refusal) (y : Y) (Q : ℕ → Type 0) → (x ≡ Ok y → Q j) → (rest ≡ Ok y → Q kind) → cond (eqb kind j) x rest ≡ Ok y → Q kind
+tried kind j x rest y Q this others = go (eqb kind j) refl
+  where
+    go : (b : Bool) → eqb kind j ≡ b → cond b x rest ≡ Ok y → Q kind
+    go true t is = subst Q (sym (eqb-true kind j t)) (this is)
+    go false t is = others is
 
 -- The record of a formula.
 
@@ -83,16 +81,7 @@ formula_read kind body at n =
     (tried kind 6 _ _ n Q (under Says)
     (tried kind 7 _ _ n Q (under Controls)
     (tried kind 8 _ _ n Q (under Ratified)
-    (tried kind 9 _ (Err (Kind at)) n Q (under Permitted) (never (Kind at) n)
-    (eqb kind 9) refl)
-    (eqb kind 8) refl)
-    (eqb kind 7) refl)
-    (eqb kind 6) refl)
-    (eqb kind 5) refl)
-    (eqb kind 4) refl)
-    (eqb kind 3) refl)
-    (eqb kind 2) refl)
-    (eqb kind 1) refl
+    (tried kind 9 _ (Err (Kind at)) n Q (under Permitted) (never (Kind at) n)))))))))
   where
     Q : ℕ → Type 0
     Q k = FormulaRecord (rec k body) n
@@ -101,10 +90,7 @@ formula_read kind body at n =
     under k = made 4 modal_of body at (λ m. Modal k m.principal m.formula) n (FormulaRecord (rec (modality_number k) body)) (modal k body)
 
 modal_taken : (k : Modality) (b : List ℕ) (at : RecordNumber) → length b ≡ 4 → formula_of (modality_number k) b at ≡ Ok (Modal k (modal_of b).principal (modal_of b).formula)
-modal_taken Says b at size = reads 4 modal_of b at _ size
-modal_taken Controls b at size = reads 4 modal_of b at _ size
-modal_taken Ratified b at size = reads 4 modal_of b at _ size
-modal_taken Permitted b at size = reads 4 modal_of b at _ size
+modal_taken k b at size = search rules
 
 formula_taken : {r : Record} {n : Node FormulaNumber} (at : RecordNumber) → FormulaRecord r n → formula_of r.kind r.body at ≡ Ok n
 formula_taken at (atom b size) = reads 2 atom_of b at _ size
@@ -128,11 +114,7 @@ fact_read kind body at v =
     tried kind 11 _ _ v Q (made 4 labelled_of body at (λ l. Left l.label l.formula) v (FactRecord (rec 11 body)) (left body))
     (tried kind 12 _ _ v Q (made 4 labelled_of body at (λ l. Right l.label l.formula) v (FactRecord (rec 12 body)) (right body))
     (tried kind 13 _ _ v Q (made 4 ordered_of body at (λ o. Linked (Order o.lower o.upper)) v (FactRecord (rec 13 body)) (order body))
-    (tried kind 14 _ (Err (Kind at)) v Q arrowed (never (Kind at) v)
-    (eqb kind 14) refl)
-    (eqb kind 13) refl)
-    (eqb kind 12) refl)
-    (eqb kind 11) refl
+    (tried kind 14 _ (Err (Kind at)) v Q arrowed (never (Kind at) v))))
   where
     Q : ℕ → Type 0
     Q k = FactRecord (rec k body) v
@@ -175,10 +157,6 @@ record EntersFact (P : ℕ) (ns : List (Node FormulaNumber)) (n : LabelCount) (f
   room : length fs < 16
   then : sequent ns n (fs ++ (fact ∷ [])) ≡ t
 
--- what was read is that
-only : {X : Type 0} (x y : X) → ◌≡◌ {A = Result X Refusal} (Ok x) (Ok y) → x ≡ y
-only x y is = cc
-
 formula_entered : (P i : ℕ) (r : Record) (ns : List (Node FormulaNumber)) (t : Stage)
     → onward (formulas_at P r.kind r.body (numbered i) ns) (λ ms. Ok (formulas ms)) ≡ Ok t → EntersFormula P ns r t
 formula_entered P i r ns t is =
@@ -191,7 +169,7 @@ formula_entered P i r ns t is =
       is = formula_read r.kind r.body (numbered i) one.value one.is;
       fits = fits.0;
       room = ltb-true (length ns) 256 room.0;
-      then = ap formulas (only (ns ++ (one.value ∷ [])) all.value room.1) ∙ only (formulas all.value) t all.after;
+      then = cc (room.1, all.after);
     }
 
 count_entered : (i : ℕ) (r : Record) (ns : List (Node FormulaNumber)) (t : Stage)
@@ -204,7 +182,7 @@ count_entered i r ns t kind is =
       kind_is = kind;
       size = body.0;
       fits = fits.0;
-      then = ap (λ n. sequent ns n []) (only (label_count_of r.body) all.value fits.1) ∙ only (sequent ns all.value []) t all.after;
+      then = cc (fits.1, all.after);
     }
 
 fact_entered : (P i : ℕ) (r : Record) (ns : List (Node FormulaNumber)) (n : LabelCount) (fs : List (FactView FormulaNumber)) (t : Stage)
@@ -219,7 +197,7 @@ fact_entered P i r ns n fs t is =
       is = fact_read r.kind r.body (numbered i) one.value one.is;
       fits = fits.0;
       room = ltb-true (length fs) 16 room.0;
-      then = ap (λ gs. sequent ns n gs) (only (fs ++ (one.value ∷ [])) all.value room.1) ∙ only (sequent ns n all.value) t all.after;
+      then = cc (room.1, all.after);
     }
 
 -- a record before the label count: a formula, or the label count
@@ -234,34 +212,25 @@ first_entered P i r ns t = go (eqb r.kind 10) refl
 
 -- the record of a formula is not that of the label count
 not_ten : {r : Record} {n : Node FormulaNumber} → FormulaRecord r n → eqb r.kind 10 ≡ false
-not_ten (atom b size) = refl
-not_ten (falsity b size) = refl
-not_ten (and b size) = refl
-not_ten (or b size) = refl
-not_ten (implies b size) = refl
-not_ten (modal Says b size) = refl
-not_ten (modal Controls b size) = refl
-not_ten (modal Ratified b size) = refl
-not_ten (modal Permitted b size) = refl
+not_ten is = search rules
 
 -- the other way: such a record is taken
 formula_enters : (P i : ℕ) (r : Record) (ns : List (Node FormulaNumber)) (n : Node FormulaNumber)
     → FormulaRecord r n → fits_formula P (length ns) n ≡ true → length ns < 256 → entered P i r (formulas ns) ≡ Ok (formulas (ns ++ (n ∷ [])))
 formula_enters P i r ns n is fits room =
-    cond-false _ _ _ (not_ten is)
-    ∙ ap (λ x. onward (onward x λ m. with_formula P (numbered i) ns m) λ ms. Ok (formulas ms)) (formula_taken (numbered i) is)
-    ∙ ap (λ x. onward x λ ms. Ok (formulas ms)) (cond-true _ _ _ fits ∙ cond-true _ _ _ (lt-ltb (length ns) 256 room))
+    let other = not_ten is in
+    let taken = formula_taken (numbered i) is in
+    grind (arith, common_steps)
 
 count_enters : (P i : ℕ) (body : List ℕ) (ns : List (Node FormulaNumber)) → length body ≡ 2 → count_fits (label_count_of body).0 ≡ true
     → entered P i (rec 10 body) (formulas ns) ≡ Ok (sequent ns (label_count_of body) [])
-count_enters P i body ns size fits =
-    ap (λ x. onward x λ n. Ok (sequent ns n [])) (reads 2 label_count_of body (numbered i) _ size ∙ cond-true _ _ _ fits)
+count_enters P i body ns size fits = grind (arith, common_steps)
 
 fact_enters : (P i : ℕ) (r : Record) (ns : List (Node FormulaNumber)) (n : LabelCount) (fs : List (FactView FormulaNumber)) (v : FactView FormulaNumber)
     → FactRecord r v → fits_fact P n.0 (length ns) v ≡ true → length fs < 16 → entered P i r (sequent ns n fs) ≡ Ok (sequent ns n (fs ++ (v ∷ [])))
 fact_enters P i r ns n fs v is fits room =
-    ap (λ x. onward (onward x λ w. with_fact P n.0 (length ns) (numbered i) fs w) λ gs. Ok (sequent ns n gs)) (fact_taken (numbered i) is)
-    ∙ ap (λ x. onward x λ gs. Ok (sequent ns n gs)) (cond-true _ _ _ fits ∙ cond-true _ _ _ (lt-ltb (length fs) 16 room))
+    let taken = fact_taken (numbered i) is in
+    grind (arith, common_steps)
 
 -- All records.
 
@@ -297,7 +266,7 @@ module _ (P : ℕ) where
   end_stated : (i : ℕ) (ns : List (Node FormulaNumber)) (n : LabelCount) (fs : List (FactView FormulaNumber)) (rest : List ℕ) (k : Kept)
       → at_end (dossier_reader P) i (sequent ns n fs) rest ≡ Ok k → Stated P ns n fs [] rest k
   end_stated i ns n fs [] k is =
-      let same = only (record { nodes = ns; labels = n; facts = fs }) k is in
+      let same : record { nodes = ns; labels = n; facts = fs } ≡ k = cc in
       record { whole = refl; nodes_are = ap (λ q. q.nodes) same; labels_are = ap (λ q. q.labels) same; stated = subst (Facts P n.0 (length ns) fs []) (ap (λ q. q.facts) same) Facts.none }
   end_stated i ns n fs (b ∷ bs) k is = never _ k is
 

@@ -1,2 +1,4 @@
+pub mod Entries
 pub mod Drafts
+pub mod Reading
 pub mod Laws

@@ -7,75 +7,70 @@ ghost use Rattle.dossiers.specs.Drafts.{Takes, stage_of};
 ghost use Rattle.records.specs.Chains.{record_of};
 ghost use Rattle.sequents.specs.Sequents.{facts_of};
 
-use crate::entry::{count_fits, fact_fits, formula_fits, read_fact, read_formula};
+use crate::entry::{Ranges, count_fits, read_fact, read_formula};
 use kinds::facts::Labels;
 use logic::table::{FormulaTable, PushError};
-use records::kind::{RecordKind, decode};
-use records::numbers::{LabelCount, RecordNumber};
-use records::record::RawRecord;
+use records::kind::RecordKind;
+use records::numbers::LabelCount;
+use records::record::Numbered;
 use records::refusal::Refusal;
 use sequents::list::FactList;
+use sequents::sequent::Sequent;
 
-// The table with the formulas read so far, the label count once it is read, and the facts read so far.
+// The table with the formulas read so far, and the sequent with the facts read so far, once its label count is read.
 #[derive(Clone, Copy)]
 pub struct Draft {
     pub table: FormulaTable,
-    pub labels: Option<LabelCount>,
-    pub facts: FactList,
+    pub sequent: Option<Sequent>,
 }
 
-// The label count of record `at`.
-fn take_labels(raw: RawRecord, at: RecordNumber) -> Result<LabelCount, Refusal>
-    ensures { result ≡ labels_at raw.entry.body.now at }
+// The label count that a record gives.
+fn take_labels(numbered: Numbered) -> Result<LabelCount, Refusal>
+    ensures { result ≡ labels_at numbered.entry.raw.body.now numbered.entry.at }
 {
-    let labels = decode::<Labels>(raw.body, at)?;
-    if count_fits(labels) {
-        Ok(labels)
-    } else {
-        Err(Refusal::OutOfRange(at))
+    let labels = numbered.decode::<Labels>()?;
+    if !count_fits(labels) {
+        return Err(Refusal::OutOfRange(numbered.at));
     }
+    Ok(labels)
 }
 
-// The formula of record `at`, put into the table.
+// The formula that a record enters, put into the table.
 fn take_formula(
     table: &mut FormulaTable,
-    raw: RawRecord,
-    at: RecordNumber,
+    numbered: Numbered,
     principals: u16,
 ) -> Result<(), Refusal>
-    ensures { Takes (formulas_at principals raw.entry.kind raw.entry.body.now at (nodes_of table.old)) result (nodes_of table.new) }
+    ensures { Takes (formulas_at principals numbered.entry.raw.kind numbered.entry.raw.body.now numbered.entry.at (nodes_of table.old)) result (nodes_of table.new) }
 {
-    let node = read_formula(raw, at)?;
-    if !formula_fits(node, principals, table.len()) {
-        return Err(Refusal::OutOfRange(at));
+    let node = read_formula(numbered)?;
+    let ranges = Ranges {
+        principals,
+        formulas: table.len(),
+    };
+    if !ranges.formula_fits(node) {
+        return Err(Refusal::OutOfRange(numbered.at));
     }
-    match table.push(node) {
-        Ok(_) => Ok(()),
-        Err(PushError::Part) => Err(Refusal::OutOfRange(at)),
-        Err(PushError::Full) => Err(Refusal::Full(at)),
-    }
+    table.push(node).map_err(|error| match error {
+        PushError::Part => Refusal::OutOfRange(numbered.at),
+        PushError::Full => Refusal::Full(numbered.at),
+    })?;
+    Ok(())
 }
 
-// The fact of record `at`, put behind the others.
-fn take_fact(
-    facts: &mut FactList,
-    raw: RawRecord,
-    at: RecordNumber,
-    principals: u16,
-    labels: LabelCount,
-    len: usize,
-) -> Result<(), Refusal>
-    ensures { Takes (facts_at principals labels.0 len raw.entry.kind raw.entry.body.now at (facts_of facts.old)) result (facts_of facts.new) }
+// The fact that a record enters, put behind the others of a sequent.
+fn take_fact(sequent: &mut Sequent, numbered: Numbered, ranges: Ranges) -> Result<(), Refusal>
+    ensures facts { Takes (facts_at ranges.principals sequent.old.labels.0 ranges.formulas numbered.entry.raw.kind numbered.entry.raw.body.now numbered.entry.at (facts_of sequent.old.facts)) result (facts_of sequent.new.facts) }
+    ensures labels { sequent.new.labels ≡ sequent.old.labels }
 {
-    let view = read_fact(raw, at)?;
-    if !fact_fits(view, principals, labels.0, len) {
-        return Err(Refusal::OutOfRange(at));
+    let view = read_fact(numbered)?;
+    if !ranges.fact_fits(view, sequent.labels) {
+        return Err(Refusal::OutOfRange(numbered.at));
     }
-    if facts.push(view) {
-        Ok(())
-    } else {
-        Err(Refusal::Full(at))
-    }
+    sequent
+        .facts
+        .push(view)
+        .map_err(|_| Refusal::Full(numbered.at))
 }
 
 impl Draft {
@@ -85,25 +80,29 @@ impl Draft {
     {
         Draft {
             table: *table,
-            labels: None,
-            facts: FactList::new(),
+            sequent: None,
         }
     }
 
-    // Record `at`, taken into the draft.
-    pub fn take(&mut self, raw: RawRecord, at: RecordNumber, principals: u16) -> Result<(), Refusal>
-        ensures { Takes (entered principals at.0 (record_of raw.entry) (stage_of self.old)) result (stage_of self.new) }
+    // A record, taken into the draft.
+    pub fn take(&mut self, numbered: Numbered, principals: u16) -> Result<(), Refusal>
+        ensures { Takes (entered principals numbered.entry.at.0 (record_of numbered.entry.raw) (stage_of self.old)) result (stage_of self.new) }
     {
-        if let Some(labels) = self.labels {
-            let len = self.table.len();
-            return take_fact(&mut self.facts, raw, at, principals, labels, len);
+        if let Some(sequent) = &mut self.sequent {
+            let ranges = Ranges {
+                principals,
+                formulas: self.table.len(),
+            };
+            return take_fact(sequent, numbered, ranges);
         }
-        if raw.kind == Labels::kind_number() {
-            let labels = take_labels(raw, at)?;
-            self.labels = Some(labels);
-            self.facts = FactList::new();
+        if numbered.raw.kind == Labels::KIND {
+            let labels = take_labels(numbered)?;
+            self.sequent = Some(Sequent {
+                labels,
+                facts: FactList::new(),
+            });
             return Ok(());
         }
-        take_formula(&mut self.table, raw, at, principals)
+        take_formula(&mut self.table, numbered, principals)
     }
 }

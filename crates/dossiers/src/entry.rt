@@ -1,118 +1,109 @@
 // What one record of a dossier enters.
-ghost use Rattle.std.specs.Prelude.{◌≡◌};
+ghost use Rattle.std.specs.Prelude.{◌≡◌, nat_lt};
+ghost use Rattle.logic.specs.declared.terms.Node.TheVariants as N;
 ghost use Rattle.dossiers.specs.Entries.{formula_of, fits_formula, fact_of, fits_fact, count_fits};
 
 use kinds::facts::*;
 use kinds::formulas::*;
+use kinds::kind::{Kind, kind_of};
 use logic::terms::{FactView, Link, Modality, Node};
-use records::kind::decode;
-use records::numbers::{FormulaNumber, LabelCount, RecordNumber};
-use records::record::RawRecord;
+use records::numbers::{FormulaNumber, LabelCount};
+use records::record::Numbered;
 use records::refusal::Refusal;
 
 // How many atoms there are.
 pub const ATOMS: u16 = 64;
 
-// The formula that record `at` enters.
-pub fn read_formula(raw: RawRecord, at: RecordNumber) -> Result<Node<FormulaNumber>, Refusal>
-    ensures { result ≡ formula_of raw.entry.kind raw.entry.body.now at }
+// A formula under a modality.
+fn under(modality: Modality, modal: Modal) -> Node<FormulaNumber>
+    ensures { result ≡ N.Modal modality modal.principal modal.formula }
 {
-    match raw.kind {
-        1 => Ok(Node::Atom(decode::<AtomFormula>(raw.body, at)?)),
-        2 => {
-            decode::<Falsity>(raw.body, at)?;
-            Ok(Node::Falsity)
-        }
-        3 => {
-            let parts = decode::<And>(raw.body, at)?;
-            Ok(Node::And(parts.left, parts.right))
-        }
-        4 => {
-            let parts = decode::<Or>(raw.body, at)?;
-            Ok(Node::Or(parts.left, parts.right))
-        }
-        5 => {
-            let parts = decode::<Implies>(raw.body, at)?;
-            Ok(Node::Implies(parts.left, parts.right))
-        }
-        6 => {
-            let modal = decode::<Says>(raw.body, at)?;
-            Ok(Node::Modal(Modality::Says, modal.principal, modal.formula))
-        }
-        7 => {
-            let modal = decode::<Controls>(raw.body, at)?;
-            Ok(Node::Modal(Modality::Controls, modal.principal, modal.formula))
-        }
-        8 => {
-            let modal = decode::<Ratified>(raw.body, at)?;
-            Ok(Node::Modal(Modality::Ratified, modal.principal, modal.formula))
-        }
-        9 => {
-            let modal = decode::<Permitted>(raw.body, at)?;
-            Ok(Node::Modal(Modality::Permitted, modal.principal, modal.formula))
-        }
-        _ => Err(Refusal::Kind(at)),
+    Node::Modal(modality, modal.principal, modal.formula)
+}
+
+// The formula that a record enters.
+pub fn read_formula(numbered: Numbered) -> Result<Node<FormulaNumber>, Refusal>
+    ensures { result ≡ formula_of numbered.entry.raw.kind numbered.entry.raw.body.now numbered.entry.at }
+{
+    match kind_of(numbered)? {
+        Kind::Atom => Ok(Node::Atom(numbered.decode::<AtomFormula>()?)),
+        Kind::Falsity => numbered.decode::<Falsity>().map(|_| Node::Falsity),
+        Kind::And => numbered.decode::<And>().map(|p| Node::And(p.left, p.right)),
+        Kind::Or => numbered.decode::<Or>().map(|p| Node::Or(p.left, p.right)),
+        Kind::Implies => numbered
+            .decode::<Implies>()
+            .map(|p| Node::Implies(p.left, p.right)),
+        Kind::Says => Ok(under(Modality::Says, numbered.decode::<Says>()?)),
+        Kind::Controls => Ok(under(Modality::Controls, numbered.decode::<Controls>()?)),
+        Kind::Ratified => Ok(under(Modality::Ratified, numbered.decode::<Ratified>()?)),
+        Kind::Permitted => Ok(under(Modality::Permitted, numbered.decode::<Permitted>()?)),
+        _ => Err(Refusal::Kind(numbered.at)),
     }
 }
 
-// Whether the numbers of a formula are in range, for a table of `len` formulas.
-pub fn formula_fits(node: Node<FormulaNumber>, principals: u16, len: usize) -> bool
-    ensures { result ≡ fits_formula principals len node }
+// The fact that a record enters.
+pub fn read_fact(numbered: Numbered) -> Result<FactView<FormulaNumber>, Refusal>
+    ensures { result ≡ fact_of numbered.entry.raw.kind numbered.entry.raw.body.now numbered.entry.at }
 {
-    match node {
-        Node::Atom(a) => a.0 < ATOMS,
-        Node::Falsity => true,
-        Node::And(f, g) => (f.0 as usize) < len && (g.0 as usize) < len,
-        Node::Or(f, g) => (f.0 as usize) < len && (g.0 as usize) < len,
-        Node::Implies(f, g) => (f.0 as usize) < len && (g.0 as usize) < len,
-        Node::Modal(_, a, f) => a.0 < principals && (f.0 as usize) < len,
+    match kind_of(numbered)? {
+        Kind::LeftFormula => numbered
+            .decode::<LeftFact>()
+            .map(|l| FactView::Left(l.label, l.formula)),
+        Kind::RightFormula => numbered
+            .decode::<RightFact>()
+            .map(|l| FactView::Right(l.label, l.formula)),
+        Kind::Order => numbered
+            .decode::<OrderFact>()
+            .map(|o| FactView::Linked(Link::Order(o.lower, o.upper))),
+        Kind::Arrow => {
+            let arrow = numbered.decode::<ArrowFact>()?;
+            let named = Modality::try_from(arrow.modality.0);
+            let modality = named.map_err(|_| Refusal::OutOfRange(numbered.at))?;
+            Ok(FactView::Linked(Link::Arrow(modality, arrow.principal, arrow.from, arrow.to)))
+        }
+        _ => Err(Refusal::Kind(numbered.at)),
     }
 }
 
-// The fact that record `at` enters.
-pub fn read_fact(raw: RawRecord, at: RecordNumber) -> Result<FactView<FormulaNumber>, Refusal>
-    ensures { result ≡ fact_of raw.entry.kind raw.entry.body.now at }
-{
-    match raw.kind {
-        11 => {
-            let fact = decode::<LeftFact>(raw.body, at)?;
-            Ok(FactView::Left(fact.label, fact.formula))
-        }
-        12 => {
-            let fact = decode::<RightFact>(raw.body, at)?;
-            Ok(FactView::Right(fact.label, fact.formula))
-        }
-        13 => {
-            let order = decode::<OrderFact>(raw.body, at)?;
-            Ok(FactView::Linked(Link::Order(order.lower, order.upper)))
-        }
-        14 => {
-            let arrow = decode::<ArrowFact>(raw.body, at)?;
-            match Modality::from_number(arrow.modality.0) {
-                Some(k) => Ok(FactView::Linked(Link::Arrow(
-                    k,
-                    arrow.principal,
-                    arrow.from,
-                    arrow.to,
-                ))),
-                None => Err(Refusal::OutOfRange(at)),
-            }
-        }
-        _ => Err(Refusal::Kind(at)),
-    }
+// How many there are of what a record names: every number that names one is below.
+#[derive(Clone, Copy)]
+pub struct Ranges {
+    pub principals: u16,
+    pub formulas: usize,
 }
 
-// Whether the numbers of a fact are in range, for a sequent of `labels` labels over a table of `len` formulas.
-pub fn fact_fits(view: FactView<FormulaNumber>, principals: u16, labels: u16, len: usize) -> bool
-    ensures { result ≡ fits_fact principals labels len view }
-{
-    match view {
-        FactView::Left(x, f) => x.0 < labels && (f.0 as usize) < len,
-        FactView::Right(x, f) => x.0 < labels && (f.0 as usize) < len,
-        FactView::Linked(Link::Order(x, y)) => x.0 < labels && y.0 < labels,
-        FactView::Linked(Link::Arrow(_, a, x, y)) => a.0 < principals
-            && x.0 < labels
-            && y.0 < labels,
+impl Ranges {
+    // Whether a formula's number is in range.
+    fn has_formula(self, formula: FormulaNumber) -> bool
+        ensures { result ≡ nat_lt formula.0 self.formulas }
+    {
+        usize::from(formula.0) < self.formulas
+    }
+
+    // Whether the numbers of a formula are in range.
+    pub fn formula_fits(self, node: Node<FormulaNumber>) -> bool
+        ensures { result ≡ fits_formula self.principals self.formulas node }
+    {
+        match node {
+            Node::Atom(a) => a.0 < ATOMS,
+            Node::Falsity => true,
+            Node::And(f, g) | Node::Or(f, g) | Node::Implies(f, g) => self.has_formula(f)
+                && self.has_formula(g),
+            Node::Modal(_, a, f) => a.0 < self.principals && self.has_formula(f),
+        }
+    }
+
+    // Whether the numbers of a fact are in range, for a sequent of `labels` labels.
+    pub fn fact_fits(self, view: FactView<FormulaNumber>, labels: LabelCount) -> bool
+        ensures { result ≡ fits_fact self.principals labels.0 self.formulas view }
+    {
+        match view {
+            FactView::Left(x, f) | FactView::Right(x, f) => x.0 < labels.0 && self.has_formula(f),
+            FactView::Linked(Link::Order(x, y)) => x.0 < labels.0 && y.0 < labels.0,
+            FactView::Linked(Link::Arrow(_, a, x, y)) => a.0 < self.principals
+                && x.0 < labels.0
+                && y.0 < labels.0,
+        }
     }
 }
 
@@ -120,5 +111,5 @@ pub fn fact_fits(view: FactView<FormulaNumber>, principals: u16, labels: u16, le
 pub fn count_fits(labels: LabelCount) -> bool
     ensures { result ≡ count_fits labels.0 }
 {
-    labels.0 >= 1 && labels.0 <= 8
+    (1..=8).contains(&labels.0)
 }

@@ -22,16 +22,10 @@ pub struct Dossier {
 fn finish(draft: Draft, read: RecordNumber) -> Result<Dossier, Refusal>
     ensures { Finished read.0 draft result }
 {
-    match draft.labels {
-        None => Err(Refusal::EndsEarly(read)),
-        Some(labels) => Ok(Dossier {
-            table: draft.table,
-            sequent: Sequent {
-                labels,
-                facts: draft.facts,
-            },
-        }),
-    }
+    Ok(Dossier {
+        table: draft.table,
+        sequent: draft.sequent.ok_or(Refusal::EndsEarly(read))?,
+    })
 }
 
 // Reads a dossier over the formulas of a table, for so many principals. The table is not changed.
@@ -40,17 +34,8 @@ pub fn read_dossier(file: File, table: &FormulaTable, principals: u16) -> Result
 {
     let mut cursor = Cursor::new(file);
     let mut draft = Draft::over(table);
-    'reading: loop {
-        let at = cursor.number();
-        match cursor.next() {
-            Err(refusal) => return Err(refusal),
-            Ok(next) => match next {
-                None => return finish(draft, at),
-                Some(raw) => match draft.take(raw, at, principals) {
-                    Err(refusal) => return Err(refusal),
-                    Ok(()) => {}
-                },
-            },
-        }
+    while let Some(record) = cursor.next()? {
+        draft.take(record, principals)?;
     }
+    finish(draft, cursor.number())
 }

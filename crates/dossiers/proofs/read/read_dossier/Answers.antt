@@ -1,54 +1,32 @@
-use Rattle.std.proofs.Common.{◌≡◌, Ok, Err, sym, ap, ◌∙◌, subst, arith}
-use Rattle.records.specs.Chains.{record_of}
+use Rattle.std.proofs.Common.{rules, ◌≡◌, Err, sym, ap, ◌∙◌, subst}
 use Rattle.records.specs.Files.{bytes_of}
-use Rattle.records.specs.Readers.{read_bytes}
-use Rattle.records.proofs.Chains.{next_at}
-use Rattle.records.proofs.Fronts.{front_parts}
-use Rattle.records.proofs.Readers.{read_more, read_bad, read_end, read_broken}
 use Rattle.logic.specs.Tables.{nodes_of}
 use Rattle.dossiers.specs.Answers.{Answers}
-use Rattle.dossiers.specs.Dossiers.{dossier_reader, finished, entered}
+use Rattle.dossiers.specs.Dossiers.{dossier_reader, finished}
 use Rattle.dossiers.specs.Drafts.{stage_of}
 use Rattle.dossiers.proofs.Laws.{dossier_law}
+use Rattle.dossiers.proofs.Reading.{fewer, good, bad, none, broken}
 use Rattle.dossiers.proofs.read.read_dossier.Goals as goal
 
-pub returns-in-Err : goal.returns-in-Err
-returns-in-Err c =
-    let step = c.in-Err.ensures in
-    record {
-      answer = c.reading.invariant ∙ read_broken (dossier_reader c.args.principals) c.reading.cursor.number (stage_of c.reading.draft) c.reading.cursor.rest.now step.0 step.1 ∙ ap Err (sym step.2);
-      law = dossier_law c.args.principals (nodes_of c.args.table.now) (bytes_of c.args.file);
-    }
+pub returns-in_err-record : goal.returns-in_err-record
+returns-in_err-record c =
+    let refused : c.from_residual.result ≡ Err c.in_err-record.field-0.0 = search rules in
+    let is = broken (dossier_reader c.args.principals) _ _ _ _ c.loop-record.invariant c.next.new.self.rest.now c.next.new.self.number c.in_err-record.field-0.0 c.in_err-record.ensures in
+    record { answer = subst (Answers _) (sym refused) (is ∙ ap Err (sym c.in_err-record.ensures.2)); law = dossier_law c.args.principals (nodes_of c.args.table.now) (bytes_of c.args.file) }
 
-pub returns-in-None : goal.returns-in-None
-returns-in-None c = record {
-  answer =
-      let step = next_at c.reading.cursor.rest.now c.reading.cursor.number c.next.new.self.rest.now c.next.new.self.number (ap Ok c.in-None.is) c.in-Ok.ensures in
-      let same = c.reading.invariant ∙ read_end (dossier_reader c.args.principals) c.reading.cursor.number (stage_of c.reading.draft) c.reading.cursor.rest.now step.0 in
-      subst (λ x. Answers x c.finish.result) (sym same) (subst (λ n. Answers (finished n (stage_of c.reading.draft)) c.finish.result) c.number-at.ensures c.finish.ensures);
-  law = dossier_law c.args.principals (nodes_of c.args.table.now) (bytes_of c.args.file);
-}
+pub loop-record-smaller : goal.loop-record-smaller
+loop-record-smaller c = fewer _ _ _ _ _ c.in-Some.record c.in-Some.is c.in_ok-record.ensures
 
-pub returns-in-Err-take : goal.returns-in-Err-take
-returns-in-Err-take c =
-    let step = next_at c.reading.cursor.rest.now c.reading.cursor.number c.next.new.self.rest.now c.next.new.self.number (ap Ok c.in-Some.is) c.in-Ok.ensures in
-    let bad = subst (λ n. entered c.args.principals n (record_of c.in-Some.raw) (stage_of c.reading.draft) ≡ Err c.in-Err-take.refusal) c.number-at.ensures c.in-Err-take.ensures in
-    record {
-      answer = c.reading.invariant ∙ read_bad (dossier_reader c.args.principals) c.reading.cursor.number (stage_of c.reading.draft) c.reading.cursor.rest.now (record_of c.in-Some.raw) c.next.new.self.rest.now c.in-Err-take.refusal step.0 bad;
-      law = dossier_law c.args.principals (nodes_of c.args.table.now) (bytes_of c.args.file);
-    }
+pub loop-record-preserved : goal.loop-record-preserved
+loop-record-preserved c = good (dossier_reader c.args.principals) _ _ _ _ c.loop-record.invariant _ _ _ _ c.in-Some.record c.in-Some.is c.in_ok-record.ensures c.in_ok-take.ensures
 
-pub reading-smaller : goal.reading-smaller
-reading-smaller c =
-    let step = next_at c.reading.cursor.rest.now c.reading.cursor.number c.next.new.self.rest.now c.next.new.self.number (ap Ok c.in-Some.is) c.in-Ok.ensures in
-    let parts = front_parts c.reading.cursor.rest.now (record_of c.in-Some.raw) c.next.new.self.rest.now step.0 in
-    omega (arith, parts.length_is)
+pub returns-in_err-take : goal.returns-in_err-take
+returns-in_err-take c =
+    let refused : c.from_residual-in_err-take.result ≡ Err c.in_err-take.field-0.0 = search rules in
+    let is = bad (dossier_reader c.args.principals) _ _ _ _ c.loop-record.invariant _ _ _ c.in-Some.record _ c.in-Some.is c.in_ok-record.ensures c.in_err-take.ensures in
+    record { answer = subst (Answers _) (sym refused) is; law = dossier_law c.args.principals (nodes_of c.args.table.now) (bytes_of c.args.file) }
 
-pub reading-preserved : goal.reading-preserved
-reading-preserved c =
-    let step = next_at c.reading.cursor.rest.now c.reading.cursor.number c.next.new.self.rest.now c.next.new.self.number (ap Ok c.in-Some.is) c.in-Ok.ensures in
-    let R = dossier_reader c.args.principals in
-    let good = subst (λ n. entered c.args.principals n (record_of c.in-Some.raw) (stage_of c.reading.draft) ≡ Ok (stage_of c.take.new.self)) c.number-at.ensures c.in-Ok-take.ensures in
-    c.reading.invariant
-    ∙ read_more R c.reading.cursor.number (stage_of c.reading.draft) (stage_of c.take.new.self) c.reading.cursor.rest.now (record_of c.in-Some.raw) c.next.new.self.rest.now step.0 good
-    ∙ ap (λ n. read_bytes R n (stage_of c.take.new.self) c.next.new.self.rest.now) (sym step.1)
+pub returns : goal.returns
+returns c =
+    let is = none (dossier_reader c.args.principals) _ _ _ _ c.loop-record.invariant _ _ _ c.in_default.is c.in_ok-record.ensures in
+    record { answer = subst (λ x. Answers x c.finish.result) (sym is) (subst (λ n. Answers (finished n (stage_of c.loop-record.draft)) c.finish.result) c.number.ensures c.finish.ensures); law = dossier_law c.args.principals (nodes_of c.args.table.now) (bytes_of c.args.file) }

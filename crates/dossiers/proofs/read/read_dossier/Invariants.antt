@@ -6,10 +6,10 @@ use Rattle.dossiers.specs.Dossiers.{formulas, dossier_reader}
 use Rattle.dossiers.specs.Drafts.{stage_of}
 use Rattle.dossiers.proofs.read.read_dossier.Given as goal
 
-abbrev pub invariant-reading : goal.invariant-reading
-invariant-reading l =
+abbrev pub invariant-loop-record : goal.invariant-loop-record
+invariant-loop-record l =
     read_bytes (dossier_reader l.principals) 0 (formulas (nodes_of l.table)) (bytes_of l.file)
     ≡ read_bytes (dossier_reader l.principals) l.cursor.number (stage_of l.draft) l.cursor.rest.now
 
-abbrev pub decreases-reading : goal.decreases-reading
-decreases-reading l = length l.cursor.rest.now
+abbrev pub decreases-loop-record : goal.decreases-loop-record
+decreases-loop-record l = length l.cursor.rest.now
