@@ -2,9 +2,10 @@
 use Rattle.std.proofs.Common.{◌≡◌, ℕ, zero, suc, ◌+◌, ◌-◌, ◌*◌, ◌/◌, ◌%◌, ◌^◌, ◌<◌, ◌≤◌, Bool, true, false, not, ◌&&◌, ◌||◌, eqb, Decides, sym, refl, ap, ◌∙◌, subst, ap₂, ⊎_elim, lt_of_lt_of_le, le_of_suc-le-suc, not-suc-le-zero, lt_of_le_of_lt, add-zero, mod-lt, mod-eq_of_lt, zero-lt-suc, one-mul, pow-suc, div-add-mod', div-one, add-one, one-add, arith, pow_pos, pow_mono, pow-add, shr-shr, shr_lt}
 use native.Mathlib.Nat.{zero-div, div-eq_of_lt, mul-add-mod_self_right, sub-zero}
 use lib.Arith.{lt-one}
-use lib.Bits.{bit_and, bit_or, bit_xor, and_shr, or_shr, xor_shr, and_mod, or_mod, xor_mod, and_le_l, and_le_r, and_mask, xor_add_and}
+use lib.Bits.{bit_and, bit_or, bit_xor, or_shifted_r, and_shr, or_shr, xor_shr, and_mod, or_mod, xor_mod, and_le_l, and_le_r, and_mask, xor_add_and}
 use lib.Pow.{pow-lt, field, ones_split, high, ones_lt}
 use Rattle.std.proofs.lemmas.Bool.{eqb-true, eq-eqb, ne_eqb, cases_lt, cases_order}
+use Rattle.std.proofs.lemmas.Nat.{one_shl}
 use Rattle.std.proofs.lemmas.Bool.Decides.{same_from_decides, Decides-below_and}
 use Rattle.rows.specs.Masks.{bit, Mask}
 use Rattle.logic.specs.Models.{every, any, ◌⊃◌}
@@ -171,6 +172,10 @@ meets_bits n a b ha =
     ap not (none_bits n (bit_and a b) (lt_of_le_of_lt (and_le_l a b) ha)) ∙ any_not_every n (λ y. bit (bit_and a b) y)
     ∙ any_same n (λ y. bit (bit_and a b) y) (λ y. bit a y && bit b y) (λ w h. bit-bit_and a b w)
 
+-- and as the code asks it
+pub meets_by : (n a b m : ℕ) (r : Bool) → r ≡ not (eqb m 0) → m ≡ bit_and a b → a < 2 ^ n → r ≡ any n (λ y. bit a y && bit b y)
+meets_by n a b m r e d ha = e ∙ ap (λ (k : ℕ). not (eqb k 0)) d ∙ meets_bits n a b ha
+
 -- ---- a mask that is made world by world
 
 -- one world more, that is or is not in the set
@@ -183,6 +188,13 @@ more_true n m p k e = record {
       (cases_lt w n);
 }
 
+-- and as the code adds it
+pub more_or : (n m : ℕ) (p : ℕ → Bool) → n < 32 → Mask n m p → p n ≡ true → Mask (n + 1) (bit_or m ((1 * 2 ^ n) % 2 ^ 32)) p
+more_or n m p l k e =
+    subst (λ (v : ℕ). Mask (n + 1) v p)
+    (sym (ap (bit_or m) (one_shl n 32 l ∙ sym (one-mul (2 ^ n))) ∙ or_shifted_r 1 n m k.small ∙ ap (λ (y : ℕ). y + m) (one-mul (2 ^ n))))
+    (more_true n m p k e)
+
 pub more_false : (n m : ℕ) (p : ℕ → Bool) → Mask n m p → p n ≡ false → Mask (n + 1) m p
 more_false n m p k e = record {
   small = let s : 2 ^ (n + 1) ≡ 2 ^ n * 2 = pow-add 2 n 1 in omega (arith, k.small);
@@ -191,6 +203,10 @@ more_false n m p k e = record {
       (λ l. let j : w ≡ n = omega arith in subst (λ (x : ℕ). bit m x ≡ p x) (sym j) (bit_past m n k.small ∙ sym e))
       (cases_lt w n);
 }
+
+-- no world yet
+pub none_yet : (p : ℕ → Bool) → Mask 0 0 p
+none_yet p = record { small = pow_pos 0; bits = λ w h. absurd (not-suc-le-zero h) }
 
 -- ---- masks of the connectives
 

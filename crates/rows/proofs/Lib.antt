@@ -1,3 +1,4 @@
 pub mod Bits
 pub mod Blank
 pub mod Writes
+pub mod Ranges

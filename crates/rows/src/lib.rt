@@ -4,3 +4,4 @@
 pub mod masks;
 pub mod places;
 pub mod rows;
+pub mod slots;

@@ -24,6 +24,7 @@ struct Arrows {
     of: [Row; 8],
 }
 
+// Fixed arrays, since the library keeps no heap; `worlds` says how many worlds there are.
 #[derive(Drop)]
 pub struct Rows {
     worlds: u16,

@@ -1,5 +1,5 @@
 // How the rows of a model are read.
-ghost use Rattle.std.specs.Prelude.{◌≡◌, ◌≤◌, get_or, slice_index_or};
+ghost use Rattle.std.specs.Prelude.{◌≡◌, ◌<◌, ◌≤◌, ℕ, Bool, get_or, slice_index_or};
 ghost use Rattle.rows.specs.Masks.{bit, Mask, no_set};
 ghost use Rattle.rows.specs.RowsOf.{no_row, frame_of, model_of, modality_place};
 
@@ -12,22 +12,15 @@ use records::numbers::{AtomNumber, Principal, World};
 fn end_at(rows: &[Row], principal: u16, i: u16) -> WorldSet
     ensures { result ≡ slice_index_or (get_or rows.now principal no_row).ends i no_set }
 {
-    match rows.get(principal as usize) {
-        Some(row) => set_at(&row.ends, i),
-        None => WorldSet(0),
-    }
+    rows.get(principal as usize)
+        .map_or(WorldSet(0), |row| set_at(&row.ends, i))
 }
 
 // The place of a modality's arrows.
 pub(super) fn place_of(modality: Modality) -> usize
     ensures { result ≡ modality_place modality }
 {
-    match modality {
-        Modality::Says => 0,
-        Modality::Controls => 1,
-        Modality::Ratified => 2,
-        Modality::Permitted => 3,
-    }
+    modality as usize
 }
 
 impl Rows {
@@ -61,10 +54,25 @@ impl Rows {
         self.cut(set_at(&self.atoms, atom.0))
     }
 
+    // The worlds where a test answers true.
+    pub fn worlds_where<F: Fn(World) -> bool>(&self, test: F) -> WorldSet
+        requires { F.IsAlwaysCallable test }
+        ensures { (p : ℕ → Bool) → ((x : World) (b : Bool) → x.0 < (frame_of self.now).worlds → F.post test x b → b ≡ p x.0) → Mask (frame_of self.now).worlds result.0 p }
+    {
+        // A loop, since each world adds to what is found: as a fold over a filter it would be no plainer.
+        let mut found = WorldSet(0);
+        for x in 0..self.worlds {
+            if test(World(x)) {
+                found = found | WorldSet(1 << x);
+            }
+        }
+        found
+    }
+
     // The worlds of the model that are in a set.
     fn cut(&self, set: WorldSet) -> WorldSet
         ensures { Mask (frame_of self.now).worlds result.0 (bit set.0) }
     {
-        WorldSet(set.0 & WorldSet::all_worlds(self.worlds).0)
+        set & WorldSet::all_worlds(self.worlds)
     }
 }

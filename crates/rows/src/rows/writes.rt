@@ -7,18 +7,9 @@ ghost use Rattle.rows.specs.Written.{AboveSet, EndsSet, AtomSet, Empty};
 use crate::masks::{MAX_WORLDS, WorldSet};
 use crate::rows::reads::place_of;
 use crate::rows::{Arrows, Row, Rows};
+use crate::slots::put_at;
 use logic::terms::Modality;
 use records::numbers::{AtomNumber, Principal, World};
-
-// Another set at place i, if there is such a place.
-fn put_set(sets: &mut [WorldSet], i: u16, worlds: WorldSet)
-    ensures { sets.new ≡ slice_set sets.old i worlds }
-{
-    let at = i as usize;
-    if at < sets.len() {
-        sets[at] = worlds;
-    }
-}
 
 // Another set at place i of a principal's row.
 fn put_end(rows: &mut [Row], principal: u16, i: u16, worlds: WorldSet)
@@ -26,18 +17,9 @@ fn put_end(rows: &mut [Row], principal: u16, i: u16, worlds: WorldSet)
     ensures here { principal < length rows.old → i < 32 → slice_index_or (get_or rows.new principal no_row).ends i no_set ≡ worlds }
 {
     let at = principal as usize;
+    // As in `put_at`: `get_mut` says nothing of what the slice ends as.
     if at < rows.len() {
-        put_set(&mut rows[at].ends, i, worlds);
-    }
-}
-
-// Another set at place i of a principal's row of a modality.
-fn put_arrow(arrows: &mut [Arrows], modality: usize, principal: u16, i: u16, worlds: WorldSet)
-    ensures list { arrows.new ≡ with_end arrows.old modality principal i worlds }
-    ensures here { modality < length arrows.old → principal < 8 → i < 32 → ends_at arrows.new modality principal i ≡ worlds }
-{
-    if modality < arrows.len() {
-        put_end(&mut arrows[modality].of, principal, i, worlds);
+        let _ = put_at(&mut rows[at].ends, i, worlds);
     }
 }
 
@@ -64,7 +46,7 @@ impl Rows {
     pub fn set_above(&mut self, world: World, worlds: WorldSet)
         ensures { AboveSet world.0 worlds self.old self.new }
     {
-        put_set(&mut self.above, world.0, worlds);
+        let _ = put_at(&mut self.above, world.0, worlds);
     }
 
     // The ends of the arrows of a modality and a principal from a world become those of a set. From principal 8 and from
@@ -78,19 +60,14 @@ impl Rows {
     )
         ensures { EndsSet modality principal.0 world.0 worlds self.old self.new }
     {
-        put_arrow(
-            &mut self.arrows,
-            place_of(modality),
-            principal.0,
-            world.0,
-            worlds,
-        );
+        let arrows = &mut self.arrows[place_of(modality)];
+        put_end(&mut arrows.of, principal.0, world.0, worlds);
     }
 
     // The worlds where an atom holds become those of a set. From atom 64 on nothing changes.
     pub fn set_atom(&mut self, atom: AtomNumber, worlds: WorldSet)
         ensures { AtomSet atom.0 worlds self.old self.new }
     {
-        put_set(&mut self.atoms, atom.0, worlds);
+        let _ = put_at(&mut self.atoms, atom.0, worlds);
     }
 }

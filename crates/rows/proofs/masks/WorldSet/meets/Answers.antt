@@ -1,6 +1,6 @@
-use Rattle.std.proofs.Common.{◌∙◌}
-use Rattle.rows.proofs.Bits.{meets_bits}
+use Rattle.std.proofs.Common.{rules}
+use Rattle.rows.proofs.Bits.{meets_by}
 use Rattle.rows.proofs.masks.WorldSet.meets.Goals as goal
 
 pub returns : goal.returns
-returns c n h = c.shares_some.ensures ∙ meets_bits n c.args.self.0 c.args.other.0 h
+returns c n h = search (rules, meets_by n c.args.self.0 c.args.other.0)
