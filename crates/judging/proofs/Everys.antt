@@ -1,7 +1,10 @@
--- Loops that test every world, and what their answers tell. Assumes nothing.
-use Rattle.std.proofs.Common.{◌≡◌, ℕ, zero, suc, ◌+◌, ◌<◌, ◌≤◌, Bool, true, false, ◌&&◌, ◌||◌, T, ◌⊎◌, get_or, sym, refl, ap, ◌∙◌, subst, ap₂, inl, inr, ⊎_elim, not-suc-le-zero, add-one, arith}
+-- What the tests of the rules tell, and how they go by sets of worlds. Assumes nothing.
+use Rattle.std.proofs.Common.{◌≡◌, ℕ, ◌<◌, ◌≤◌, Bool, true, false, ◌&&◌, T, Decides, get_or, sym, refl, ap, ◌∙◌, subst, ap₂, ⊎_elim, Option, Some, None, arith}
 use Rattle.std.proofs.lemmas.List.{get_or_past}
 use Rattle.std.proofs.lemmas.Bool.{cases_lt}
+use Rattle.std.proofs.lemmas.Bool.Decides.{Decides-like, Decides-and, Decides-below_and, Decides-below_or}
+use Rattle.std.specs.Option.{MatchOption, IsSomeAnd}
+use Rattle.records.specs.declared.numbers.AtomNumber.{AtomNumber}
 use Rattle.logic.specs.declared.terms.Modality.{Modality}
 use Rattle.logic.specs.declared.terms.Modality.TheVariants.{Says, Controls, Ratified, Permitted}
 use Rattle.logic.specs.Models.{Frame, every, any, ◌⊃◌}
@@ -11,115 +14,83 @@ use Rattle.rows.specs.declared.rows.Rows.{Rows}
 use Rattle.rows.specs.Masks.{bit, Mask, no_set}
 use Rattle.rows.specs.RowsOf.{frame_of, model_of}
 use Rattle.rows.proofs.Bits.{every_same, any_same, bit_zero}
-use Rattle.judging.specs.Tests.{Tells, closed, leads, permits, ordered, keeps, under, allows, PrincipalKeeps}
-
-and_swap : (a b : Bool) → (a && b) ≡ (b && a)
-and_swap true true = refl
-and_swap true false = refl
-and_swap false true = refl
-and_swap false false = refl
-
--- one world more
-pub every_more : (n : ℕ) (p : ℕ → Bool) (ok b : Bool) → ok ≡ every n p → b ≡ p n → (ok && b) ≡ every (n + 1) p
-every_more n p ok b e d = ap₂ ◌&&◌ e d ∙ and_swap (every n p) (p n) ∙ ap (λ (k : ℕ). every k p) (sym (add-one n))
+use Rattle.judging.specs.Tests.{Tells, all_above, some_above, permits_all, closed, ordered, keeps, under, allows, PrincipalKeeps, OpenRow}
 
 -- ---- what a test tells
 
-pub tells_at : {P : Type 0} (r s : Bool) → r ≡ s → Tells s P → Tells r P
-tells_at r s e t = rw e t
+pub tells_at : {P : Type 0} (r s : Bool) → r ≡ s → Decides s P → Tells r P
+tells_at true s e d = (λ _. d.0 (sym e), λ _. tt)
+tells_at false s e d = (λ t. absurd t, λ x. subst (λ (b : Bool). T b) (sym (e ∙ d.1 x)) tt)
 
-pub tells_like : {P Q : Type 0} (r : Bool) → (P → Q) → (Q → P) → Tells r P → Tells r Q
-tells_like r f g t = (λ x. f (t.0 x), λ x. t.1 (g x))
+pub decides_of : {P : Type 0} (r : Bool) → Tells r P → Decides r P
+decides_of true t = (λ _. t.0 tt, λ _. refl)
+decides_of false t = (λ e. t.0 (subst (λ (b : Bool). T b) (sym e) tt), λ x. absurd (t.1 x))
 
-pub tells_is : (b : Bool) → Tells b (T b)
-tells_is b = (λ e. e, λ e. e)
+decides_is : (b : Bool) → Decides b (T b)
+decides_is true = (λ _. tt, λ _. refl)
+decides_is false = (λ e. subst (λ (b : Bool). T b) (sym e) tt, λ t. absurd t)
 
-pub tells_both : {P Q : Type 0} (a b : Bool) → Tells a P → Tells b Q → Tells (a && b) (P × Q)
-tells_both true true d e = (λ t. (d.0 tt, e.0 tt), λ t. tt)
-tells_both true false d e = (λ t. absurd t, λ t. e.1 t.1)
-tells_both false b d e = (λ t. absurd t, λ t. d.1 t.0)
+decides_when : {P : Type 0} (a b : Bool) → Decides b P → Decides (a ⊃ b) (T a → P)
+decides_when true b d = (λ e _. d.0 e, λ h. d.1 (h tt))
+decides_when false b d = (λ e f. absurd f, λ h. refl)
 
-pub tells_when : {P : Type 0} (a b : Bool) → Tells b P → Tells (a ⊃ b) (T a → P)
-tells_when true b d = (λ t _. d.0 t, λ h. d.1 (h tt))
-tells_when false b d = (λ t f. absurd f, λ h. tt)
+decides_each : (F : Frame) (p : ℕ → Bool) (P : ℕ → Type 0) → ((k : ℕ) → Decides (p k) (P k)) → Decides (every F.worlds p) (Each F P)
+decides_each F p P each = Decides-below_and p P (λ k. every k p) each refl (λ _. refl) F.worlds
 
-pub tells_each : (n : ℕ) (p : ℕ → Bool) (P : ℕ → Type 0) → ((k : ℕ) → Tells (p k) (P k)) → Tells (every n p) ((k : ℕ) → k < n → P k)
-tells_each zero p P each = (λ t k h. absurd (not-suc-le-zero h), λ f. tt)
-tells_each (suc n) p P each =
-    tells_like (p n && every n p)
-    (λ b k h. ⊎_elim (λ l. b.1 k l) (λ l. let e : k ≡ n = omega arith in rw e b.0) (cases_lt k n))
-    (λ f. (f n (omega arith), λ k h. f k (omega arith)))
-    (tells_both (p n) (every n p) (each n) (tells_each n p P each))
-
-pub tells_either : {P Q : Type 0} (a b : Bool) → Tells a P → Tells b Q → Tells (a || b) (P ⊎ Q)
-tells_either true b d e = (λ t. inl (d.0 tt), λ t. tt)
-tells_either false b d e = (λ t. inr (e.0 t), λ t. ⊎_elim (λ x. absurd (d.1 x)) e.1 t)
-
-pub tells_any : (n : ℕ) (p : ℕ → Bool) → Tells (any n p) ((k : ℕ) × (k < n) × T (p k))
-tells_any zero p = (λ t. absurd t, λ f. absurd (not-suc-le-zero f.1))
-tells_any (suc n) p =
-    tells_like (p n || any n p)
-    (λ s. ⊎_elim (λ t. (n, omega arith, t)) (λ f. (f.0, omega arith, f.2)) s)
-    (λ f. ⊎_elim (λ l. inr (f.0, l, f.2)) (λ l. let e : f.0 ≡ n = omega arith in inl (rw e at f.2)) (cases_lt f.0 n))
-    (tells_either (p n) (any n p) (tells_is (p n)) (tells_any n p))
+decides_some : (F : Frame) (x : ℕ) (q : ℕ → Bool) → Decides (some_above F x q) ((y : ℕ) × (y < F.worlds) × (T (F.above x y) × T (q y)))
+decides_some F x q =
+    Decides-below_or (λ y. F.above x y && q y) (λ y. T (F.above x y) × T (q y)) (λ k. any k (λ y. F.above x y && q y))
+    (λ y. Decides-and (F.above x y) (q y) (decides_is (F.above x y)) (decides_is (q y))) refl (λ _. refl) F.worlds
 
 -- ---- the rules by their tests
 
 abbrev Closed : Frame → (ℕ → Bool) → (ℕ → Bool) → Type 0
 Closed F p q = Each F λ z. T (p z) → Each F λ w. T (F.above z w) → T (q w)
 
-tells_closed : (F : Frame) (p q : ℕ → Bool) → Tells (closed F p q) (Closed F p q)
-tells_closed F p q =
-    tells_each F.worlds (λ z. p z ⊃ every F.worlds (λ w. F.above z w ⊃ q w)) (λ z. T (p z) → Each F λ w. T (F.above z w) → T (q w))
-    (λ z. tells_when (p z) (every F.worlds (λ w. F.above z w ⊃ q w))
-    (tells_each F.worlds (λ w. F.above z w ⊃ q w) (λ w. T (F.above z w) → T (q w)) (λ w. tells_when (F.above z w) (q w) (tells_is (q w)))))
+decides_closed : (F : Frame) (p q : ℕ → Bool) → Decides (closed F p q) (Closed F p q)
+decides_closed F p q =
+    decides_each F (λ z. p z ⊃ all_above F z q) (λ z. T (p z) → Each F λ w. T (F.above z w) → T (q w))
+    (λ z. decides_when (p z) (all_above F z q)
+    (decides_each F (λ w. F.above z w ⊃ q w) (λ w. T (F.above z w) → T (q w)) (λ w. decides_when (F.above z w) (q w) (decides_is (q w)))))
 
-pub tells_upward : (F : Frame) (q : ℕ → Bool) → Tells (closed F q q) (Upward F q)
-tells_upward F q =
-    tells_like (closed F q q) (λ h x hx y hy a t. h x hx t y hy a) (λ u z hz t w hw a. u z hz w hw a t) (tells_closed F q q)
+pub decides_upward : (F : Frame) (q : ℕ → Bool) → Decides (closed F q q) (Upward F q)
+decides_upward F q =
+    Decides-like (closed F q q) (λ h x hx y hy a t. h x hx t y hy a) (λ u z hz t w hw a. u z hz w hw a t) (decides_closed F q q)
 
-pub tells_order : (F : Frame) → Tells (every F.worlds (ordered F)) (Reflexive F × Transitive F)
-tells_order F =
-    tells_like (every F.worlds (ordered F))
+pub decides_order : (F : Frame) → Decides (every F.worlds (ordered F)) (Reflexive F × Transitive F)
+decides_order F =
+    Decides-like (every F.worlds (ordered F))
     (λ d. (λ x hx. (d x hx).0, λ x hx y hy z hz a b. (d x hx).1 y hy a z hz b))
     (λ o x hx. (o.0 x hx, λ y hy a z hz b. o.1 x hx y hy z hz a b))
-    (tells_each F.worlds (ordered F) (λ x. T (F.above x x) × Closed F (F.above x) (F.above x))
-    (λ x. tells_both (F.above x x) (closed F (F.above x) (F.above x)) (tells_is (F.above x x)) (tells_closed F (F.above x) (F.above x))))
+    (decides_each F (ordered F) (λ x. T (F.above x x) × Closed F (F.above x) (F.above x))
+    (λ x. Decides-and (F.above x x) (closed F (F.above x) (F.above x)) (decides_is (F.above x x)) (decides_closed F (F.above x) (F.above x))))
 
-pub tells_monotone : (F : Frame) (k : Modality) (A : ℕ) → Tells (every F.worlds (keeps F k A)) (Monotone F k A)
-tells_monotone F k A =
-    tells_like (every F.worlds (keeps F k A))
+pub decides_monotone : (F : Frame) (k : Modality) (A : ℕ) → Decides (every F.worlds (keeps F k A)) (Monotone F k A)
+decides_monotone F k A =
+    Decides-like (every F.worlds (keeps F k A))
     (λ d x hx y hy z hz w hw a b c. d x hx y hy a z hz b w hw c)
     (λ m x hx y hy a z hz b w hw c. m x hx y hy z hz w hw a b c)
-    (tells_each F.worlds (keeps F k A) (λ x. Each F λ y. T (F.above x y) → Closed F (F.arrow k A y) (F.arrow k A x))
-    (λ x. tells_each F.worlds (λ y. F.above x y ⊃ closed F (F.arrow k A y) (F.arrow k A x)) (λ y. T (F.above x y) → Closed F (F.arrow k A y) (F.arrow k A x))
-    (λ y. tells_when (F.above x y) (closed F (F.arrow k A y) (F.arrow k A x)) (tells_closed F (F.arrow k A y) (F.arrow k A x)))))
+    (decides_each F (keeps F k A) (λ x. Each F λ y. T (F.above x y) → Closed F (F.arrow k A y) (F.arrow k A x))
+    (λ x. decides_each F (λ y. F.above x y ⊃ closed F (F.arrow k A y) (F.arrow k A x)) (λ y. T (F.above x y) → Closed F (F.arrow k A y) (F.arrow k A x))
+    (λ y. decides_when (F.above x y) (closed F (F.arrow k A y) (F.arrow k A x)) (decides_closed F (F.arrow k A y) (F.arrow k A x)))))
 
-pub tells_permitted : (F : Frame) (A : ℕ) → Tells (every F.worlds (allows F A)) (MonotonePermitted F A)
-tells_permitted F A =
-    let s = λ (x z : ℕ). tells_any F.worlds (λ y. F.above x y && F.arrow Permitted A z y) in
-    let b = λ (x y z : ℕ). tells_both (F.above x y) (F.arrow Permitted A z y) (tells_is (F.above x y)) (tells_is (F.arrow Permitted A z y)) in
-    tells_like (every F.worlds (allows F A))
-    (λ d x hx y hy z hz w hw u v q. d z hz w hw q x hx ((s x z).1 (y, hy, (b x y z).1 (u, v))))
-    (λ law z hz w hw q x hx e.
-    let k = (s x z).0 e in
-    let t = (b x k.0 z).0 k.2 in
-    law x hx k.0 k.1 z hz w hw t.0 t.1 q)
-    (tells_each F.worlds (allows F A)
-    (λ z. Each F λ w. T (F.above z w) → Each F λ x. T (under F A z x) → T (F.arrow Permitted A w x))
-    (λ z. tells_each F.worlds (λ w. F.above z w ⊃ every F.worlds (λ x. under F A z x ⊃ F.arrow Permitted A w x))
-    (λ w. T (F.above z w) → Each F λ x. T (under F A z x) → T (F.arrow Permitted A w x))
-    (λ w. tells_when (F.above z w) (every F.worlds (λ x. under F A z x ⊃ F.arrow Permitted A w x))
-    (tells_each F.worlds (λ x. under F A z x ⊃ F.arrow Permitted A w x) (λ x. T (under F A z x) → T (F.arrow Permitted A w x))
-    (λ x. tells_when (under F A z x) (F.arrow Permitted A w x) (tells_is (F.arrow Permitted A w x)))))))
+pub decides_permitted : (F : Frame) (A : ℕ) → Decides (every F.worlds (allows F A)) (MonotonePermitted F A)
+decides_permitted F A =
+    let s = λ (x z : ℕ). tells_at (under F A z x) (under F A z x) refl (decides_some F x (F.arrow Permitted A z)) in
+    Decides-like (every F.worlds (allows F A))
+    (λ d x hx y hy z hz w hw u v q. d z hz w hw q x hx ((s x z).1 (y, hy, (u, v))))
+    (λ law z hz w hw q x hx e. let k = (s x z).0 e in law x hx k.0 k.1 z hz w hw k.2.0 k.2.1 q)
+    (decides_each F (allows F A) (λ z. Each F λ w. T (F.above z w) → Each F λ x. T (under F A z x) → T (F.arrow Permitted A w x))
+    (λ z. decides_each F (λ w. F.above z w ⊃ permits_all F A w (under F A z)) (λ w. T (F.above z w) → Each F λ x. T (under F A z x) → T (F.arrow Permitted A w x))
+    (λ w. decides_when (F.above z w) (permits_all F A w (under F A z))
+    (decides_each F (λ x. under F A z x ⊃ F.arrow Permitted A w x) (λ x. T (under F A z x) → T (F.arrow Permitted A w x))
+    (λ x. decides_when (under F A z x) (F.arrow Permitted A w x) (decides_is (F.arrow Permitted A w x)))))))
 
 -- ---- the tests by sets
 
-pub closed_same : (F : Frame) (p q s t : ℕ → Bool) → ((w : ℕ) → w < F.worlds → p w ≡ s w) → ((w : ℕ) → w < F.worlds → q w ≡ t w) → closed F p q ≡ closed F s t
-closed_same F p q s t e d =
-    every_same F.worlds (λ z. p z ⊃ every F.worlds (λ w. F.above z w ⊃ q w)) (λ z. s z ⊃ every F.worlds (λ w. F.above z w ⊃ t w))
-    (λ z h. ap₂ ◌⊃◌ (e z h)
-    (every_same F.worlds (λ w. F.above z w ⊃ q w) (λ w. F.above z w ⊃ t w) (λ w l. ap (λ (b : Bool). F.above z w ⊃ b) (d w l))))
+-- the same over two lists of worlds that agree
+pub over_same : (n : ℕ) (p s g : ℕ → Bool) → ((w : ℕ) → w < n → p w ≡ s w) → every n (λ z. p z ⊃ g z) ≡ every n (λ z. s z ⊃ g z)
+over_same n p s g e = every_same n (λ z. p z ⊃ g z) (λ z. s z ⊃ g z) (λ z h. ap (λ (b : Bool). b ⊃ g z) (e z h))
 
 pub within_same : (n m i : ℕ) (p q : ℕ → Bool) → Mask n m p → ((w : ℕ) → w < n → bit i w ≡ q w)
     → every n (λ y. bit m y ⊃ bit i y) ≡ every n (λ y. p y ⊃ q y)
@@ -129,37 +100,7 @@ pub meets_same : (n m i : ℕ) (p q : ℕ → Bool) → Mask n m p → ((w : ℕ
     → any n (λ y. bit m y && bit i y) ≡ any n (λ y. p y && q y)
 meets_same n m i p q k l = any_same n (λ y. bit m y && bit i y) (λ y. p y && q y) (λ w h. ap₂ ◌&&◌ (k.bits w h) (l w h))
 
-pub leads_same : (F : Frame) (k : Modality) (A : ℕ) (p q s t : ℕ → Bool) → ((w : ℕ) → w < F.worlds → p w ≡ s w) → ((w : ℕ) → w < F.worlds → q w ≡ t w)
-    → leads F k A p q ≡ leads F k A s t
-leads_same F k A p q s t e d =
-    every_same F.worlds (λ y. p y ⊃ closed F (F.arrow k A y) q) (λ y. s y ⊃ closed F (F.arrow k A y) t)
-    (λ y h. ap₂ ◌⊃◌ (e y h) (closed_same F (F.arrow k A y) q (F.arrow k A y) t (λ w l. refl) d))
-
-pub permits_same : (F : Frame) (A : ℕ) (p q s t : ℕ → Bool) → ((w : ℕ) → w < F.worlds → p w ≡ s w) → ((w : ℕ) → w < F.worlds → q w ≡ t w)
-    → permits F A p q ≡ permits F A s t
-permits_same F A p q s t e d =
-    every_same F.worlds (λ w. p w ⊃ every F.worlds (λ x. q x ⊃ F.arrow Permitted A w x)) (λ w. s w ⊃ every F.worlds (λ x. t x ⊃ F.arrow Permitted A w x))
-    (λ w h. ap₂ ◌⊃◌ (e w h)
-    (every_same F.worlds (λ x. q x ⊃ F.arrow Permitted A w x) (λ x. t x ⊃ F.arrow Permitted A w x) (λ x l. ap (λ (b : Bool). b ⊃ F.arrow Permitted A w x) (d x l))))
-
 -- ---- all rules
-
--- one test more, in a loop: what holds below n, and at n
-pub tells_more : {Q : Type 0} (n : ℕ) (P : ℕ → Type 0) (ok b : Bool) → Tells ok (Q × ((k : ℕ) → k < n → P k)) → Tells b (P n)
-    → Tells (ok && b) (Q × ((k : ℕ) → k < n + 1 → P k))
-tells_more n P ok b t u =
-    tells_like (ok && b)
-    (λ h. (h.0.0, λ k l. ⊎_elim (λ j. h.0.1 k j) (λ j. let e : k ≡ n = omega arith in rw e h.1) (cases_lt k n)))
-    (λ h. ((h.0, λ k l. h.1 k (omega arith)), h.1 n (omega arith)))
-    (tells_both ok b t u)
-
-pub tells_principal : (F : Frame) (A : ℕ) (s c r p : Bool) → Tells s (Monotone F Says A) → Tells c (Monotone F Controls A) → Tells r (Monotone F Ratified A)
-    → Tells p (MonotonePermitted F A) → Tells (s && (c && (r && p))) (PrincipalKeeps F A)
-tells_principal F A s c r p ts tc tr tp =
-    tells_like (s && (c && (r && p)))
-    (λ h. record { says = h.0; controls = h.1.0; ratified = h.1.1.0; permitted = h.1.1.1 })
-    (λ h. (h.says, (h.controls, (h.ratified, h.permitted))))
-    (tells_both s (c && (r && p)) ts (tells_both c (r && p) tc (tells_both r p tr tp)))
 
 of_universal : (F : Frame) (A : ℕ) → PrincipalKeeps F A → (k : Modality) → T (universal k) → Monotone F k A
 of_universal F A h Says t = h.says
@@ -167,24 +108,33 @@ of_universal F A h Controls t = h.controls
 of_universal F A h Ratified t = h.ratified
 of_universal F A h Permitted t = absurd t
 
-pub tells_regular : (F : Frame) (P : ℕ) (r : Bool) → 0 < F.worlds → Tells r ((Reflexive F × Transitive F) × ((A : ℕ) → A < P → PrincipalKeeps F A)) → Tells r (Regular P F)
-tells_regular F P r i t =
-    tells_like r
-    (λ h. record {
-      inhabited = i;
-      reflexive = h.0.0;
-      transitive = h.0.1;
-      monotone = λ k u A l. of_universal F A (h.1 A l) k u;
-      monotone_permitted = λ A l. (h.1 A l).permitted;
-    })
-    (λ h. (
-      (h.reflexive, h.transitive),
-      λ A l. record { says = h.monotone Says tt A l; controls = h.monotone Controls tt A l; ratified = h.monotone Ratified tt A l; permitted = h.monotone_permitted A l },
-    ))
-    t
+pub regular_of : (F : Frame) (P : ℕ) → 0 < F.worlds → Reflexive F × Transitive F → ((A : ℕ) → A < P → PrincipalKeeps F A) → Regular P F
+regular_of F P i o h = record {
+  inhabited = i;
+  reflexive = o.0;
+  transitive = o.1;
+  monotone = λ k u A l. of_universal F A (h A l) k u;
+  monotone_permitted = λ A l. (h A l).permitted;
+}
+
+pub principals_of : (F : Frame) (P : ℕ) → Regular P F → (A : ℕ) → A < P → PrincipalKeeps F A
+principals_of F P h A l = record { says = h.monotone Says tt A l; controls = h.monotone Controls tt A l; ratified = h.monotone Ratified tt A l; permitted = h.monotone_permitted A l }
 
 -- no atom holds from 64 on
 pub no_row_upward : (r : Rows) (a : ℕ) → 64 ≤ a → Upward (frame_of r) ((model_of r).row a)
 no_row_upward r a h x hx y hy u t =
     let e : get_or r.atoms a no_set ≡ no_set = get_or_past r.atoms a no_set (omega (arith, r.whole)) in
     absurd (subst (λ (b : Bool). T b) (ap (λ (m : WorldSet). bit m.0 x) e ∙ bit_zero x) t)
+
+-- the lowest number below 64 whose row is not closed, as the atom that is made of it
+pub open_row : (r : Rows) (found : Option ℕ) (result : Option AtomNumber) (Made : ℕ → AtomNumber → Type 0)
+    → MatchOption found ((k : ℕ) → 0 ≤ k → k < 64 → Upward (frame_of r) ((model_of r).row k))
+    (λ i. (0 ≤ i) × (i < 64) × (Upward (frame_of r) ((model_of r).row i) → ⊥) × ((k : ℕ) → 0 ≤ k → k < i → Upward (frame_of r) ((model_of r).row k)))
+    → MatchOption found (result ≡ None) (λ i. IsSomeAnd result (Made i)) → ((i : ℕ) (a : AtomNumber) → Made i a → a.0 ≡ i) → OpenRow (model_of r) result
+open_row r None result Made all e made =
+    subst (OpenRow (model_of r)) (sym e) (λ a. ⊎_elim (λ l. all a (omega arith) l) (λ l. no_row_upward r a l) (cases_lt a 64))
+open_row r (Some i) (Some a) Made low m made = record {
+  not_closed = λ u. low.2 (subst (λ (k : ℕ). Upward (frame_of r) ((model_of r).row k)) (made i a m) u);
+  below = λ b l. let e : a.0 ≡ i = made i a m in low.3 b (omega arith) (omega arith);
+}
+open_row r (Some i) None Made low m made = absurd m

@@ -27,17 +27,29 @@ abbrev pub OpenRow : Model → Option AtomNumber → Type 0
 OpenRow m None = (a : ℕ) → Upward m.frame (m.row a)
 OpenRow m (Some a) = LowestOpen m a.0
 
+-- every world above z is one of q
+abbrev pub all_above : Frame → ℕ → (ℕ → Bool) → Bool
+all_above F z q = every F.worlds (λ w. F.above z w ⊃ q w)
+
+-- some world above x is one of q
+abbrev pub some_above : Frame → ℕ → (ℕ → Bool) → Bool
+some_above F x q = any F.worlds (λ y. F.above x y && q y)
+
 -- every world above a world of p is one of q
 abbrev pub closed : Frame → (ℕ → Bool) → (ℕ → Bool) → Bool
-closed F p q = every F.worlds (λ z. p z ⊃ every F.worlds (λ w. F.above z w ⊃ q w))
+closed F p q = every F.worlds (λ z. p z ⊃ all_above F z q)
 
 -- from every y of up: each world above an end of an arrow of k and A from y is one of into
 abbrev pub leads : Frame → Modality → ℕ → (ℕ → Bool) → (ℕ → Bool) → Bool
 leads F k A up into = every F.worlds (λ y. up y ⊃ closed F (F.arrow k A y) into)
 
+-- each world of low is the end of an arrow of permission of A from w
+abbrev pub permits_all : Frame → ℕ → ℕ → (ℕ → Bool) → Bool
+permits_all F A w low = every F.worlds (λ x. low x ⊃ F.arrow Permitted A w x)
+
 -- from every w of up: each world of low is the end of an arrow of permission of A from w
 abbrev pub permits : Frame → ℕ → (ℕ → Bool) → (ℕ → Bool) → Bool
-permits F A up low = every F.worlds (λ w. up w ⊃ every F.worlds (λ x. low x ⊃ F.arrow Permitted A w x))
+permits F A up low = every F.worlds (λ w. up w ⊃ permits_all F A w low)
 
 -- the order at x: x is above x, and every world above one above x is above x
 abbrev pub ordered : Frame → ℕ → Bool
@@ -49,7 +61,7 @@ keeps F k A x = leads F k A (F.above x) (F.arrow k A x)
 
 -- x is below an end of an arrow of permission of A from z
 abbrev pub under : Frame → ℕ → ℕ → ℕ → Bool
-under F A z x = any F.worlds (λ y. F.above x y && F.arrow Permitted A z y)
+under F A z x = some_above F x (F.arrow Permitted A z)
 
 -- the arrows of permission of A at z: each such x is the end of one from every world above z
 abbrev pub allows : Frame → ℕ → ℕ → Bool

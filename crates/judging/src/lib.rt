@@ -2,5 +2,4 @@
 #![tactic(auto)]
 
 pub mod rules;
-mod sets;
 pub mod truth;

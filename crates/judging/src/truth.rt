@@ -5,7 +5,6 @@ ghost use Rattle.rows.specs.Masks.{bit, Mask};
 ghost use Rattle.rows.specs.RowsOf.{frame_of, model_of};
 ghost use Rattle.judging.specs.Truths.{Carried};
 
-use crate::sets::grown;
 use logic::terms::{Modality, Node};
 use records::numbers::{FormulaNumber, Principal, World};
 use rows::masks::{WorldSet, set_at};
@@ -16,50 +15,37 @@ fn holds_at_ends(modality: Modality, ends: WorldSet, part: WorldSet) -> bool
     ensures { (n : ℕ) → ends.0 < 2 ^ n → result ≡ at_ends modality n (bit ends.0) (bit part.0) }
 {
     match modality {
-        Modality::Says => ends.within(part),
-        Modality::Controls => ends.within(part),
-        Modality::Ratified => ends.within(part),
+        Modality::Says | Modality::Controls | Modality::Ratified => ends.within(part),
         Modality::Permitted => ends.meets(part),
     }
+}
+
+// The same, of a principal at a world x.
+fn modal_at(rows: &Rows, modality: Modality, principal: Principal, x: World, part: WorldSet) -> bool
+    ensures { result ≡ at_ends modality (frame_of rows.now).worlds ((frame_of rows.now).arrow modality principal.0 x.0) (bit part.0) }
+{
+    holds_at_ends(modality, rows.ends(modality, principal, x), part)
 }
 
 // The worlds where a modality of a principal holds over the worlds of `part`.
 fn modal_set(rows: &Rows, modality: Modality, principal: Principal, part: WorldSet) -> WorldSet
     ensures { Mask (frame_of rows.now).worlds result.0 (λ x. at_ends modality (frame_of rows.now).worlds ((frame_of rows.now).arrow modality principal.0 x) (bit part.0)) }
 {
-    let mut out = WorldSet(0);
-    for x in 0..rows.worlds() {
-        let ends = rows.ends(modality, principal, World(x));
-        out = grown(out, x, holds_at_ends(modality, ends, part));
-    }
-    out
+    rows.worlds_where(|x| modal_at(rows, modality, principal, x, part))
+}
+
+// Whether every world above x that is one of `left` is one of `right`.
+fn implies_at(rows: &Rows, x: World, left: WorldSet, right: WorldSet) -> bool
+    ensures { result ≡ every (frame_of rows.now).worlds (λ y. (frame_of rows.now).above x.0 y ⊃ (bit left.0 y ⊃ bit right.0 y)) }
+{
+    (rows.above(x) & left).within(right)
 }
 
 // The worlds above which every world of `left` is one of `right`.
 fn implies_set(rows: &Rows, left: WorldSet, right: WorldSet) -> WorldSet
     ensures { Mask (frame_of rows.now).worlds result.0 (λ x. every (frame_of rows.now).worlds (λ y. (frame_of rows.now).above x y ⊃ (bit left.0 y ⊃ bit right.0 y))) }
 {
-    let mut out = WorldSet(0);
-    for x in 0..rows.worlds() {
-        let up = rows.above(World(x));
-        let held = both(up, left);
-        out = grown(out, x, held.within(right));
-    }
-    out
-}
-
-// The worlds of both sets.
-fn both(a: WorldSet, b: WorldSet) -> WorldSet
-    ensures { result.0 ≡ bit_and a.0 b.0 }
-{
-    WorldSet(a.0 & b.0)
-}
-
-// The worlds of either set.
-fn either(a: WorldSet, b: WorldSet) -> WorldSet
-    ensures { result.0 ≡ bit_or a.0 b.0 }
-{
-    WorldSet(a.0 | b.0)
+    rows.worlds_where(|x| implies_at(rows, x, left, right))
 }
 
 // The worlds where a formula holds, from those of its parts, by number. A part that is not in the list holds nowhere.
@@ -69,8 +55,8 @@ pub fn node_set(rows: &Rows, node: Node<FormulaNumber>, sets: &[WorldSet]) -> Wo
     match node {
         Node::Atom(a) => rows.atom(a),
         Node::Falsity => WorldSet(0),
-        Node::And(f, g) => both(set_at(sets, f.0), set_at(sets, g.0)),
-        Node::Or(f, g) => either(set_at(sets, f.0), set_at(sets, g.0)),
+        Node::And(f, g) => set_at(sets, f.0) & set_at(sets, g.0),
+        Node::Or(f, g) => set_at(sets, f.0) | set_at(sets, g.0),
         Node::Implies(f, g) => implies_set(rows, set_at(sets, f.0), set_at(sets, g.0)),
         Node::Modal(k, p, f) => modal_set(rows, k, p, set_at(sets, f.0)),
     }

@@ -10,13 +10,12 @@ mod tests {
     use rows::masks::*;
     use rows::places::*;
     use rows::rows::*;
+    use rows::slots::NoPlace;
     use std::test::Fail;
 
     // Worlds 0 and 1, with 0 below 1.
     fn chain() -> Result<Rows, Fail> {
-        let Some(mut rows) = Rows::new(2) else {
-            return Err(Fail::new("two worlds"));
-        };
+        let mut rows = Rows::new(2).ok_or_else(|| Fail::new("two worlds"))?;
         rows.set_above(World(0), WorldSet(3));
         rows.set_above(World(1), WorldSet(2));
         Ok(rows)
@@ -26,9 +25,7 @@ mod tests {
     fn one_to_thirty_two_worlds(rt: HostRuntime) -> Result<(), Fail> {
         assert!(rt; Rows::new(0).is_none());
         assert!(rt; Rows::new(33).is_none());
-        let Some(rows) = Rows::new(32) else {
-            return Err(Fail::new("32 worlds"));
-        };
+        let rows = Rows::new(32).ok_or_else(|| Fail::new("32 worlds"))?;
         assert_eq!(rt; rows.worlds(), 32);
         Ok(())
     }
@@ -41,6 +38,8 @@ mod tests {
         assert!(rt; WorldSet(6).meets(WorldSet(12)) & !WorldSet(2).meets(WorldSet(5)));
         assert_eq!(rt; WorldSet(1).with_world(World(3)).0, 9);
         assert_eq!(rt; WorldSet::all_worlds(3).0, 7);
+        assert_eq!(rt; WorldSet(6) & WorldSet(12), WorldSet(4));
+        assert_eq!(rt; WorldSet(6) | WorldSet(12), WorldSet(14));
     }
 
     #[test]
@@ -53,15 +52,14 @@ mod tests {
         assert_eq!(rt; rows.ends(Modality::Ratified, Principal(7), World(1)).0, 0);
         assert_eq!(rt; rows.ends(Modality::Permitted, Principal(8), World(1)).0, 0);
         assert_eq!(rt; rows.above(World(32)).0, 0);
+        assert_eq!(rt; rows.worlds_where(|world| world.0 != 0), WorldSet(2));
         Ok(())
     }
 
     #[test]
     fn orders(rt: HostRuntime) -> Result<(), Fail> {
         assert!(rt; is_order(&chain()?));
-        let Some(mut rows) = Rows::new(3) else {
-            return Err(Fail::new("three worlds"));
-        };
+        let mut rows = Rows::new(3).ok_or_else(|| Fail::new("three worlds"))?;
         rows.set_above(World(0), WorldSet(3));
         rows.set_above(World(1), WorldSet(6));
         assert!(rt; !is_order(&rows), "2 is not above itself");
@@ -107,9 +105,7 @@ mod tests {
         rows.set_atom(AtomNumber(5), WorldSet(1));
         assert!(rt; !is_upward(&rows, AtomNumber(5)) & is_upward(&rows, AtomNumber(4)));
         assert!(rt; !atoms_are_upward(&rows));
-        let Some(AtomNumber(5)) = first_open_row(&rows) else {
-            return Err(Fail::new("the row of atom 5"));
-        };
+        assert_eq!(rt; first_open_row(&rows), Some(AtomNumber(5)));
         Ok(())
     }
 
@@ -144,8 +140,8 @@ mod tests {
     #[test]
     fn labels_are_placed(rt: HostRuntime) {
         let mut places = Places::new();
-        assert!(rt; places.put(Label(7), World(5)));
-        assert!(rt; !places.put(Label(8), World(6)));
+        assert_eq!(rt; places.put(Label(7), World(5)), Ok(()));
+        assert_eq!(rt; places.put(Label(8), World(6)), Err(NoPlace));
         assert_eq!(rt; places.world(Label(7)).0, 5);
         assert!(rt; places.place(Label(6)).is_none());
         assert_eq!(rt; places.world(Label(6)).0, 0);

@@ -1,18 +1,12 @@
-use Rattle.std.proofs.Common.{◌≡◌, ℕ, ◌<◌, subst, arith}
+use Rattle.std.proofs.Common.{rules}
 use Rattle.logic.specs.Models.{every}
 use Rattle.rows.specs.RowsOf.{frame_of}
+use Rattle.rows.proofs.Ranges.{every_from_all}
 use Rattle.judging.specs.Tests.{ordered}
-use Rattle.judging.proofs.Everys.{every_more, tells_at, tells_order}
+use Rattle.judging.proofs.Everys.{tells_at, decides_order}
 use Rattle.judging.proofs.rules.is_order.Goals as goal
-
-pub loop-x-preserved : goal.loop-x-preserved
-loop-x-preserved c =
-    let F = frame_of c.args.rows.now in
-    let l : c.loop-x.x < F.worlds = omega arith in
-    every_more c.loop-x.x (ordered F) c.loop-x.ok c.order_at-ok.result c.loop-x.invariant (c.order_at-ok.ensures l)
 
 pub returns : goal.returns
 returns c =
     let F = frame_of c.args.rows.now in
-    let e : c.loop-x.x ≡ F.worlds = omega arith in
-    tells_at c.loop-x.ok (every F.worlds (ordered F)) (subst (λ (n : ℕ). c.loop-x.ok ≡ every n (ordered F)) e c.loop-x.invariant) (tells_order F)
+    tells_at c.all.result (every F.worlds (ordered F)) (every_from_all F.worlds (ordered F) c.worlds.ensures.count _ _ _ c.all.ensures.ran (λ x b q k. search rules)) (decides_order F)

@@ -1,19 +1,16 @@
-use Rattle.std.proofs.Common.{◌≡◌, ℕ, ◌<◌, subst, arith}
-use Rattle.logic.specs.ModelRules.{Reflexive, Transitive}
+use Rattle.std.proofs.Common.{rules, Bool, T, sym, refl, subst}
+use Rattle.std.proofs.lemmas.Bool.Decides.{Decides-like}
 use Rattle.rows.specs.RowsOf.{frame_of}
-use Rattle.judging.specs.Tests.{Tells, PrincipalKeeps}
-use Rattle.judging.proofs.Everys.{tells_more, tells_regular}
+use Rattle.rows.proofs.Ranges.{decides_from_all}
+use Rattle.judging.specs.Tests.{PrincipalKeeps}
+use Rattle.judging.proofs.Everys.{tells_at, decides_of, regular_of, principals_of}
 use Rattle.judging.proofs.rules.keeps_rules.Goals as goal
 
-pub loop-principal-preserved : goal.loop-principal-preserved
-loop-principal-preserved c =
-    tells_more c.loop-principal.principal (PrincipalKeeps (frame_of c.args.rows.now))
-    c.loop-principal.ok c.arrows_are_monotone-ok.result c.loop-principal.invariant c.arrows_are_monotone-ok.ensures
-
-pub returns : goal.returns
-returns c =
+pub returns-then-order : goal.returns-then-order
+returns-then-order c =
     let F = frame_of c.args.rows.now in
-    let e : c.loop-principal.principal ≡ c.args.principals = omega arith in
-    let i : 0 < F.worlds = c.args.rows.now.inhabited in
-    tells_regular F c.args.principals c.loop-principal.ok i
-    (subst (λ (n : ℕ). Tells c.loop-principal.ok ((Reflexive F × Transitive F) × ((A : ℕ) → A < n → PrincipalKeeps F A))) e c.loop-principal.invariant)
+    let P = c.args.principals in
+    let order = c.is_order-order.ensures.0 (subst (λ (b : Bool). T b) (sym c.if-order.true) tt) in
+    tells_at c.all.result c.all.result refl
+    (Decides-like c.all.result (regular_of F P c.args.rows.now.inhabited order) (principals_of F P)
+    (decides_from_all P (PrincipalKeeps F) refl _ _ _ c.all.ensures.ran (λ x b q k. search (rules, decides_of))))
