@@ -1,5 +1,6 @@
 -- A sketch that one entry is written into shows the entries with that one. Assumes nothing.
-use Rattle.std.proofs.Common.{◌≡◌, ℕ, ◌^◌, ◌<◌, ◌≤◌, true, false, ◌&&◌, eqb, ltb, List, [], ◌∷◌, ◌++◌, get_or, is_some, Some, None, Ok, Err, unwrap_or, sym, refl, ap, ◌∙◌, subst, ⊎_elim, arith}
+use Rattle.std.proofs.Common.{◌≡◌, ℕ, ◌^◌, ◌<◌, ◌≤◌, true, false, ◌&&◌, eqb, ltb, List, [], ◌∷◌, ◌++◌, get_or, is_some, Some, None, Ok, Err, sym, refl, ap, ◌∙◌, subst, ⊎_elim, arith}
+use Rattle.std.proofs.lemmas.Option.{same_Some}
 use Rattle.std.proofs.lemmas.Bool.{and_parts, ltb-true, eq-eqb, ne_eqb, cond-true, cond-false, cases_eq, cases_Bool, both_ways}
 use Rattle.records.specs.declared.numbers.AtomNumber.{AtomNumber}
 use Rattle.records.specs.declared.numbers.Label.{Label}
@@ -133,9 +134,6 @@ atom_grown W es a m s t h small none rows marks same =
 same_label : (x y : Label) → x.0 ≡ y.0 → x ≡ y
 same_label x y e = λ i. record { 0 = e i }
 
-some_same : {X : Type 0} (x y : X) → Some x ≡ Some y → x ≡ y
-some_same x y e = ap (λ o. unwrap_or o x) e
-
 place_grown : (W : ℕ) (es : List Entry) (x : Label) (w : World) (s t : Sketch) → Shows W es s → x.0 < 8 → w.0 < W → given (gives_place x.0) es ≡ None
     → t.rows ≡ s.rows → t.given ≡ s.given → Put x w s.places t.places → Shows W (es ++ (Place x w ∷ [])) t
 place_grown W es x w s t h small low none rows marks put =
@@ -156,7 +154,7 @@ place_grown W es x w s t h small low none rows marks put =
       arrow_marked = λ k A z. mark_old (gives_ends k A z) es e _ refl (ap (λ r. (frame_of r).arrow k A z 0) marks ∙ h.arrow_marked k A z);
       row_marked = λ a. mark_old (gives_atom a) es e _ refl (ap (λ r. (model_of r).row a 0) marks ∙ h.row_marked a);
       in_worlds = λ z v is. ⊎_elim
-          (λ (eq : z.0 ≡ x.0). let one : w ≡ v = some_same w v (sym now ∙ ap (place_in (es ++ (e ∷ []))) (sym (same_label z x eq)) ∙ is) in subst (λ u. u.0 < W) one low)
+          (λ (eq : z.0 ≡ x.0). let one : w ≡ v = same_Some w v (sym now ∙ ap (place_in (es ++ (e ∷ []))) (sym (same_label z x eq)) ∙ is) in subst (λ u. u.0 < W) one low)
           (λ ne. h.in_worlds z v (sym (given_old (gives_place z.0) es e (other z.0 ne)) ∙ is))
           (cases_eq z.0 x.0);
     }

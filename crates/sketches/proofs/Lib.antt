@@ -1,3 +1,4 @@
+pub mod Unknown
 pub mod Given
 pub mod Grown
 pub mod Placings

@@ -1,6 +1,9 @@
 -- Which label has no place. Assumes nothing.
-use Rattle.std.proofs.Common.{◌≡◌, ℕ, zero, suc, ◌+◌, ◌<◌, true, false, cond, is_some, Some, None, Option, sym, refl, ap, ◌∙◌, subst, ⊎_elim, arith}
-use Rattle.std.proofs.lemmas.Bool.{cond-true, cond-false, cases_eq, true≢false}
+use Rattle.std.proofs.Common.{◌≡◌, ℕ, zero, suc, ◌<◌, Bool, true, false, not, cond, [], ◌∷◌, map, is_some, Some, None, Option, sym, refl, ap, ◌∙◌, subst, ⊎_elim, add-one, arith}
+use Rattle.std.proofs.lemmas.Bool.{cond-true, cases_eq, true≢false}
+use Rattle.std.proofs.lemmas.List.Folds.{find-append}
+use Rattle.std.proofs.lemmas.List.FromFn.{map-range_with_len_more}
+use Rattle.std.specs.List.{find, range_with_len}
 use Rattle.std.specs.Option.{option_or}
 use Rattle.records.specs.declared.numbers.Label.{Label}
 use Rattle.records.specs.declared.numbers.World.{World}
@@ -15,23 +18,20 @@ found : (o : Option World) (y : Label) → cond (is_some o) None (Some y) ≡ No
 found None y h = absurd (true≢false (ap is_some h))
 found (Some w) y h = (w, refl)
 
-module _ (place : Label → Option World) where
-  -- one label more, and it is placed
-  pub unplaced_more : (x : ℕ) → is_some (place (label x)) ≡ true → unplaced x place ≡ None → unplaced (x + 1) place ≡ None
-  unplaced_more x some none =
-      let one : x + 1 ≡ suc x = omega arith in
-      ap (λ n. unplaced n place) one
-      ∙ ap (λ p. option_or p (cond (is_some (place (label x))) None (Some (label x)))) none
-      ∙ cond-true (is_some (place (label x))) None (Some (label x)) some
+-- a test turned about
+turned : {X : Type 0} (b : Bool) (o p : Option X) → cond (not b) o p ≡ cond b p o
+turned true o p = refl
+turned false o p = refl
 
-  -- the first label that is not placed, for every larger count
-  pub unplaced_first : (n x : ℕ) → x < n → is_some (place (label x)) ≡ false → unplaced x place ≡ None → unplaced n place ≡ Some (label x)
-  unplaced_first zero x low missing none = absurd (omega arith)
-  unplaced_first (suc k) x low missing none = ⊎_elim
-      (λ (eq : x ≡ k). subst (λ n. unplaced (suc n) place ≡ Some (label x)) eq
-      (ap (λ p. option_or p (cond (is_some (place (label x))) None (Some (label x)))) none ∙ cond-false (is_some (place (label x))) None (Some (label x)) missing))
-      (λ (ne : x ≡ k → ⊥). ap (λ p. option_or p (cond (is_some (place (label k))) None (Some (label k)))) (unplaced_first k x (omega (arith, low, ne)) missing none))
-      (cases_eq x k)
+module _ (place : Label → Option World) where
+  -- the search of the labels below n, in their order
+  pub searched : (n : ℕ) → find (λ x. not (is_some (place x))) (map label (range_with_len 0 n)) ≡ unplaced n place
+  searched zero = refl
+  searched (suc k) =
+      ap (find (λ x. not (is_some (place x)))) (ap (λ n. map label (range_with_len 0 n)) (sym (add-one k)) ∙ map-range_with_len_more label 0 k k (omega arith))
+      ∙ find-append (λ x. not (is_some (place x))) (map label (range_with_len 0 k)) (label k ∷ [])
+      ∙ ap (option_or (find (λ x. not (is_some (place x))) (map label (range_with_len 0 k)))) (turned (is_some (place (label k))) (Some (label k)) None)
+      ∙ ap (λ o. option_or o (cond (is_some (place (label k))) None (Some (label k)))) (searched k)
 
   -- where no label is unplaced, each has a place
   pub all_placed : (n x : ℕ) → x < n → unplaced n place ≡ None → (w : World) × (place (label x) ≡ Some w)

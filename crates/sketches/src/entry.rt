@@ -2,11 +2,11 @@
 ghost use Rattle.std.specs.Prelude.{◌≡◌, ◌^◌, ◌≤◌, nat_lt};
 ghost use Rattle.sketches.specs.Entries.{entry_of, fits_entry, count_of};
 
+use kinds::kind::{Kind, kind_of};
 use kinds::rows::*;
 use logic::terms::Modality;
-use records::kind::decode;
-use records::numbers::{AtomNumber, Label, LabelCount, Principal, RecordNumber, World, WorldCount};
-use records::record::RawRecord;
+use records::numbers::{AtomNumber, Label, LabelCount, Principal, World, WorldCount};
+use records::record::Numbered;
 use records::refusal::Refusal;
 use rows::masks::WorldSet;
 use rows::places::MAX_LABELS;
@@ -31,34 +31,6 @@ pub struct Ranges {
     pub labels: LabelCount,
 }
 
-// What record `at` gives.
-pub fn read_entry(raw: RawRecord, at: RecordNumber) -> Result<Entry, Refusal>
-    ensures { result ≡ entry_of raw.entry.kind raw.entry.body.now at }
-{
-    match raw.kind {
-        21 => {
-            let row = decode::<Above>(raw.body, at)?;
-            Ok(Entry::Above(row.world, WorldSet(row.mask.0)))
-        }
-        22 => {
-            let row = decode::<Ends>(raw.body, at)?;
-            match Modality::from_number(row.modality.0) {
-                Some(k) => Ok(Entry::Ends(k, row.principal, row.world, WorldSet(row.mask.0))),
-                None => Err(Refusal::OutOfRange(at)),
-            }
-        }
-        23 => {
-            let row = decode::<AtomHolds>(raw.body, at)?;
-            Ok(Entry::Atom(row.atom, WorldSet(row.mask.0)))
-        }
-        24 => {
-            let place = decode::<Stands>(raw.body, at)?;
-            Ok(Entry::Place(place.label, place.world))
-        }
-        _ => Err(Refusal::Kind(at)),
-    }
-}
-
 // Whether a set has only worlds below `worlds`.
 fn set_fits(set: WorldSet, worlds: u16) -> bool
     requires { worlds ≤ 32 }
@@ -67,28 +39,60 @@ fn set_fits(set: WorldSet, worlds: u16) -> bool
     (set.0 as u64) < (1u64 << worlds)
 }
 
-// Whether the numbers of an entry are in range, in a model of `worlds` worlds.
-pub fn entry_fits(entry: Entry, worlds: u16, ranges: Ranges) -> bool
-    requires { worlds ≤ 32 }
-    ensures { result ≡ fits_entry worlds ranges.principals ranges.labels.0 entry }
-{
-    match entry {
-        Entry::Above(x, set) => x.0 < worlds && set_fits(set, worlds),
-        Entry::Ends(_, a, x, set) => a.0 < ranges.principals
-            && a.0 < MAX_PRINCIPALS
-            && x.0 < worlds
-            && set_fits(set, worlds),
-        Entry::Atom(a, set) => a.0 < MAX_ATOMS && set_fits(set, worlds),
-        Entry::Place(x, w) => x.0 < ranges.labels.0 && x.0 < MAX_LABELS && w.0 < worlds,
+impl Entry {
+    // What a record gives.
+    #[tactic(auto, using(crate::proofs::Unknown::no_entry))]
+    pub fn read(record: Numbered) -> Result<Entry, Refusal>
+        ensures { result ≡ entry_of «record».entry.raw.kind «record».entry.raw.body.now «record».entry.at }
+    {
+        match kind_of(record)? {
+            Kind::WorldsAbove => {
+                let row = record.decode::<Above>()?;
+                Ok(Entry::Above(row.world, WorldSet(row.mask.0)))
+            }
+            Kind::ArrowEnds => {
+                let row = record.decode::<Ends>()?;
+                let modality = Modality::try_from(row.modality.0).map_err(|_| Refusal::OutOfRange(
+                    record.at,
+                ))?;
+                Ok(Entry::Ends(modality, row.principal, row.world, WorldSet(row.mask.0)))
+            }
+            Kind::AtomRow => {
+                let row = record.decode::<AtomHolds>()?;
+                Ok(Entry::Atom(row.atom, WorldSet(row.mask.0)))
+            }
+            Kind::Place => {
+                let place = record.decode::<Stands>()?;
+                Ok(Entry::Place(place.label, place.world))
+            }
+            _ => Err(Refusal::Kind(record.at)),
+        }
+    }
+
+    // Whether the entry's numbers are in range, in a model of `worlds` worlds.
+    pub fn fits(self, worlds: u16, ranges: Ranges) -> bool
+        requires { worlds ≤ 32 }
+        ensures { result ≡ fits_entry worlds ranges.principals ranges.labels.0 self }
+    {
+        match self {
+            Entry::Above(x, set) => x.0 < worlds && set_fits(set, worlds),
+            Entry::Ends(_, a, x, set) => a.0 < ranges.principals
+                && a.0 < MAX_PRINCIPALS
+                && x.0 < worlds
+                && set_fits(set, worlds),
+            Entry::Atom(a, set) => a.0 < MAX_ATOMS && set_fits(set, worlds),
+            Entry::Place(x, w) => x.0 < ranges.labels.0 && x.0 < MAX_LABELS && w.0 < worlds,
+        }
     }
 }
 
-// The world count that record `at` gives.
-pub fn read_worlds(raw: RawRecord, at: RecordNumber) -> Result<WorldCount, Refusal>
-    ensures { result ≡ count_of raw.entry.kind raw.entry.body.now at }
+// The world count that a record gives.
+#[tactic(auto, using(crate::proofs::Unknown::no_count))]
+pub fn read_worlds(record: Numbered) -> Result<WorldCount, Refusal>
+    ensures { result ≡ count_of «record».entry.raw.kind «record».entry.raw.body.now «record».entry.at }
 {
-    match raw.kind {
-        20 => decode::<Worlds>(raw.body, at),
-        _ => Err(Refusal::Kind(at)),
+    match kind_of(record)? {
+        Kind::Worlds => record.decode::<Worlds>(),
+        _ => Err(Refusal::Kind(record.at)),
     }
 }

@@ -29,12 +29,9 @@ pub struct GivenModel {
 fn first_unplaced(places: &Places, labels: LabelCount) -> Option<Label>
     ensures { result ≡ unplaced labels.0 (place_at places.now) }
 {
-    for x in 0..labels.0 {
-        if places.place(Label(x)).is_none() {
-            return Some(Label(x));
-        }
-    }
-    None
+    (0..labels.0)
+        .map(Label)
+        .find(|x| places.place(*x).is_none())
 }
 
 // The model that a sketch is where the file ends.
@@ -57,13 +54,8 @@ fn begin(cursor: &mut Cursor) -> Result<Sketch, Refusal>
     ensures { (P n : ℕ) → Started P n (read_bytes (model_reader P n) cursor.old.number nothing cursor.old.rest.now) cursor.new.number cursor.new.rest.now result }
 {
     let at = cursor.number();
-    match cursor.next() {
-        Err(refusal) => Err(refusal),
-        Ok(next) => match next {
-            None => Err(Refusal::EndsEarly(at)),
-            Some(raw) => Sketch::begin(raw, at),
-        },
-    }
+    let record = cursor.next()?.ok_or(Refusal::EndsEarly(at))?;
+    Sketch::begin(record)
 }
 
 // Reads a model file for a sequent of so many labels and for so many principals.
@@ -73,21 +65,9 @@ pub fn read_model(file: File, labels: LabelCount, principals: u16) -> Result<Giv
 {
     let ranges = Ranges { principals, labels };
     let mut cursor = Cursor::new(file);
-    let mut sketch = match begin(&mut cursor) {
-        Err(refusal) => return Err(refusal),
-        Ok(sketch) => sketch,
-    };
-    'reading: loop {
-        let at = cursor.number();
-        match cursor.next() {
-            Err(refusal) => return Err(refusal),
-            Ok(next) => match next {
-                None => return finish(sketch, ranges),
-                Some(raw) => match sketch.take(raw, at, ranges) {
-                    Err(refusal) => return Err(refusal),
-                    Ok(()) => {}
-                },
-            },
-        }
+    let mut sketch = begin(&mut cursor)?;
+    while let Some(record) = cursor.next()? {
+        sketch.take(record, ranges)?;
     }
+    finish(sketch, ranges)
 }

@@ -4,14 +4,15 @@ ghost use Rattle.records.specs.Chains.{record_of};
 ghost use Rattle.sketches.specs.Entries.{worlds_at};
 ghost use Rattle.sketches.specs.Sketches.{Shows, Begins, Takes, marked, Written};
 
-use crate::entry::{Entry, Ranges, entry_fits, read_entry, read_worlds};
-use records::numbers::{RecordNumber, World};
-use records::record::RawRecord;
+use crate::entry::{Entry, Ranges, read_worlds};
+use records::numbers::World;
+use records::record::Numbered;
 use records::refusal::Refusal;
 use rows::masks::WorldSet;
 use rows::places::Places;
 use rows::rows::Rows;
 
+// A second table of rows tells what was given, and not a flag beside each row: the reads and writes of rows then serve both.
 // The rows and places read so far. In `given` a row has world 0 exactly where that row was given, be it empty.
 #[derive(Drop)]
 pub struct Sketch {
@@ -34,15 +35,12 @@ impl Sketch {
         })
     }
 
-    // A sketch of as many worlds as record `at` says.
-    pub fn begin(raw: RawRecord, at: RecordNumber) -> Result<Sketch, Refusal>
-        ensures { Begins (worlds_at raw.entry.kind raw.entry.body.now at) result }
+    // A sketch of as many worlds as a record says.
+    pub fn begin(record: Numbered) -> Result<Sketch, Refusal>
+        ensures { Begins (worlds_at «record».entry.raw.kind «record».entry.raw.body.now «record».entry.at) result }
     {
-        let worlds = read_worlds(raw, at)?;
-        match Sketch::new(worlds.0) {
-            Some(sketch) => Ok(sketch),
-            None => Err(Refusal::OutOfRange(at)),
-        }
+        let worlds = read_worlds(record)?;
+        Sketch::new(worlds.0).ok_or(Refusal::OutOfRange(record.at))
     }
 
     // Whether the row or the place of an entry was given.
@@ -82,16 +80,16 @@ impl Sketch {
         }
     }
 
-    // Record `at`, taken into the sketch.
-    pub fn take(&mut self, raw: RawRecord, at: RecordNumber, ranges: Ranges) -> Result<(), Refusal>
-        ensures { Takes ranges.principals ranges.labels.0 at.0 (record_of raw.entry) self.old result self.new }
+    // A record, taken into the sketch.
+    pub fn take(&mut self, record: Numbered, ranges: Ranges) -> Result<(), Refusal>
+        ensures { Takes ranges.principals ranges.labels.0 «record».entry.at.0 (record_of «record».entry.raw) self.old result self.new }
     {
-        let entry = read_entry(raw, at)?;
-        if !entry_fits(entry, self.rows.worlds(), ranges) {
-            return Err(Refusal::OutOfRange(at));
+        let entry = Entry::read(record)?;
+        if !entry.fits(self.rows.worlds(), ranges) {
+            return Err(Refusal::OutOfRange(record.at));
         }
         if self.has(entry) {
-            return Err(Refusal::GivenTwice(at));
+            return Err(Refusal::GivenTwice(record.at));
         }
         self.put(entry);
         Ok(())

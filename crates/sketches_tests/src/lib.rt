@@ -3,37 +3,19 @@
 
 use records::file::File;
 use records::numbers::LabelCount;
+use records::refusal::Refusal;
 use sketches::read::read_model;
 
-// How a model file reads: the refusal's two numbers, or 0 and the number of worlds.
-#[derive(Clone, Copy, PartialEq, Debug)]
-pub struct Outcome {
-    pub number: u16,
-    pub second: u16,
+// How many worlds the model has that the bytes describe.
+fn worlds_of(bytes: &[u8], labels: u16, principals: u16) -> Result<u16, Refusal> {
+    let file = File::try_from(bytes)?;
+    let model = read_model(file, LabelCount(labels), principals)?;
+    Ok(model.rows.worlds())
 }
 
-// Reads the bytes as a model file.
-pub fn outcome_of(bytes: &[u8], labels: u16, principals: u16) -> Outcome {
-    if let Err(refusal) = File::check(bytes) {
-        return refused(refusal.number(), refusal.second());
-    }
-    match read_model(File::new(bytes), LabelCount(labels), principals) {
-        Err(refusal) => refused(refusal.number(), refusal.second()),
-        Ok(model) => taken(model.rows.worlds()),
-    }
-}
-
-// A refused file.
-pub fn refused(number: u16, second: u16) -> Outcome {
-    Outcome { number, second }
-}
-
-// A taken file.
-pub fn taken(worlds: u16) -> Outcome {
-    Outcome {
-        number: 0,
-        second: worlds,
-    }
+// The same, with a refusal as its two numbers.
+pub fn outcome_of(bytes: &[u8], labels: u16, principals: u16) -> Result<u16, (u16, u16)> {
+    worlds_of(bytes, labels, principals).map_err(|refusal| (refusal.number(), refusal.second()))
 }
 
 #[cfg(test)]
@@ -47,34 +29,34 @@ mod tests {
     fn one_to_thirty_two_worlds(rt: HostRuntime) {
         assert_eq!(rt;
             outcome_of(&[4, 0, 20, 0, 32, 0, 6, 0, 24, 0, 0, 0, 31, 0], 1, 1),
-            taken(32)
+            Ok(32)
         );
         assert_eq!(rt;
             outcome_of(&[4, 0, 20, 0, 1, 0, 6, 0, 24, 0, 0, 0, 0, 0], 1, 1),
-            taken(1)
+            Ok(1)
         );
         assert_eq!(rt;
             outcome_of(&[4, 0, 20, 0, 33, 0, 6, 0, 24, 0, 0, 0, 0, 0], 1, 1),
-            refused(5, 0)
+            Err((5, 0))
         );
-        assert_eq!(rt; outcome_of(&[4, 0, 20, 0, 0, 0], 1, 1), refused(5, 0));
+        assert_eq!(rt; outcome_of(&[4, 0, 20, 0, 0, 0], 1, 1), Err((5, 0)));
         assert_eq!(rt;
             outcome_of(&[4, 0, 20, 0, 32, 0, 6, 0, 24, 0, 0, 0, 32, 0], 1, 1),
-            refused(5, 1)
+            Err((5, 1))
         );
     }
 
     #[test]
     fn every_label_is_placed(rt: HostRuntime) {
-        assert_eq!(rt; outcome_of(&[], 1, 1), refused(13, 0));
-        assert_eq!(rt; outcome_of(&[4, 0, 20, 0, 1, 0], 1, 1), refused(19, 0));
+        assert_eq!(rt; outcome_of(&[], 1, 1), Err((13, 0)));
+        assert_eq!(rt; outcome_of(&[4, 0, 20, 0, 1, 0], 1, 1), Err((19, 0)));
         assert_eq!(rt;
             outcome_of(&[4, 0, 20, 0, 2, 0, 6, 0, 24, 0, 0, 0, 1, 0], 2, 1),
-            refused(19, 1)
+            Err((19, 1))
         );
         assert_eq!(rt;
             outcome_of(&[4, 0, 20, 0, 2, 0, 6, 0, 24, 0, 2, 0, 1, 0], 3, 1),
-            refused(19, 0)
+            Err((19, 0))
         );
         assert_eq!(rt;
             outcome_of(
@@ -84,59 +66,59 @@ mod tests {
                 2,
                 1,
             ),
-            taken(2)
+            Ok(2)
         );
         assert_eq!(rt;
             outcome_of(&[4, 0, 20, 0, 2, 0, 6, 0, 24, 0, 1, 0, 0, 0], 1, 1),
-            refused(5, 1)
+            Err((5, 1))
         );
         assert_eq!(rt;
             outcome_of(&[4, 0, 20, 0, 2, 0, 6, 0, 24, 0, 8, 0, 0, 0], 9, 1),
-            refused(5, 1)
+            Err((5, 1))
         );
     }
 
     #[test]
     fn kinds_in_their_places(rt: HostRuntime) {
-        assert_eq!(rt; outcome_of(&[6, 0, 24, 0, 0, 0, 0, 0], 1, 1), refused(4, 0));
-        assert_eq!(rt; outcome_of(&[4, 0, 10, 0, 1, 0], 1, 1), refused(4, 0));
+        assert_eq!(rt; outcome_of(&[6, 0, 24, 0, 0, 0, 0, 0], 1, 1), Err((4, 0)));
+        assert_eq!(rt; outcome_of(&[4, 0, 10, 0, 1, 0], 1, 1), Err((4, 0)));
         assert_eq!(rt;
             outcome_of(&[4, 0, 20, 0, 1, 0, 4, 0, 20, 0, 1, 0], 1, 1),
-            refused(4, 1)
+            Err((4, 1))
         );
         assert_eq!(rt;
             outcome_of(&[4, 0, 20, 0, 1, 0, 2, 0, 2, 0], 1, 1),
-            refused(4, 1)
+            Err((4, 1))
         );
         assert_eq!(rt;
             outcome_of(&[4, 0, 20, 0, 1, 0, 2, 0, 25, 0], 1, 1),
-            refused(4, 1)
+            Err((4, 1))
         );
         assert_eq!(rt;
             outcome_of(&[4, 0, 20, 0, 1, 0, 3, 0, 19, 0, 7], 1, 1),
-            refused(4, 1)
+            Err((4, 1))
         );
     }
 
     #[test]
     fn frames_and_sizes(rt: HostRuntime) {
-        assert_eq!(rt; outcome_of(&[3, 0, 20, 0, 1], 1, 1), refused(3, 0));
-        assert_eq!(rt; outcome_of(&[4, 0, 20, 0, 1, 0, 9], 1, 1), refused(3, 1));
+        assert_eq!(rt; outcome_of(&[3, 0, 20, 0, 1], 1, 1), Err((3, 0)));
+        assert_eq!(rt; outcome_of(&[4, 0, 20, 0, 1, 0, 9], 1, 1), Err((3, 1)));
         assert_eq!(rt;
             outcome_of(&[4, 0, 20, 0, 1, 0, 6, 0, 21, 0, 0, 0, 1, 0], 1, 1),
-            refused(3, 1)
+            Err((3, 1))
         );
         assert_eq!(rt;
             outcome_of(&[4, 0, 20, 0, 1, 0, 2, 0, 22, 0], 1, 1),
-            refused(3, 1)
+            Err((3, 1))
         );
         assert_eq!(rt;
             outcome_of(&[4, 0, 20, 0, 1, 0, 2, 0, 23, 0], 1, 1),
-            refused(3, 1)
+            Err((3, 1))
         );
         assert_eq!(rt;
             outcome_of(&[4, 0, 20, 0, 1, 0, 2, 0, 24, 0], 1, 1),
-            refused(3, 1)
+            Err((3, 1))
         );
     }
 
@@ -144,15 +126,15 @@ mod tests {
     fn masks_in_range(rt: HostRuntime) {
         assert_eq!(rt;
             outcome_of(&[4, 0, 20, 0, 3, 0, 8, 0, 21, 0, 2, 0, 7, 0, 0, 0], 0, 1),
-            taken(3)
+            Ok(3)
         );
         assert_eq!(rt;
             outcome_of(&[4, 0, 20, 0, 3, 0, 8, 0, 21, 0, 3, 0, 7, 0, 0, 0], 0, 1),
-            refused(5, 1)
+            Err((5, 1))
         );
         assert_eq!(rt;
             outcome_of(&[4, 0, 20, 0, 3, 0, 8, 0, 21, 0, 2, 0, 8, 0, 0, 0], 0, 1),
-            refused(5, 1)
+            Err((5, 1))
         );
         assert_eq!(rt;
             outcome_of(
@@ -162,11 +144,11 @@ mod tests {
                 0,
                 1,
             ),
-            refused(5, 1)
+            Err((5, 1))
         );
         assert_eq!(rt;
             outcome_of(&[4, 0, 20, 0, 3, 0, 8, 0, 23, 0, 0, 0, 8, 0, 0, 0], 0, 1),
-            refused(5, 1)
+            Err((5, 1))
         );
         assert_eq!(rt;
             outcome_of(
@@ -174,11 +156,11 @@ mod tests {
                 0,
                 1,
             ),
-            taken(32)
+            Ok(32)
         );
         assert_eq!(rt;
             outcome_of(&[4, 0, 20, 0, 31, 0, 8, 0, 21, 0, 0, 0, 0, 0, 0, 128], 0, 1),
-            refused(5, 1)
+            Err((5, 1))
         );
     }
 
@@ -192,7 +174,7 @@ mod tests {
                 0,
                 8,
             ),
-            taken(1)
+            Ok(1)
         );
         assert_eq!(rt;
             outcome_of(
@@ -202,7 +184,7 @@ mod tests {
                 0,
                 8,
             ),
-            refused(5, 1)
+            Err((5, 1))
         );
         assert_eq!(rt;
             outcome_of(
@@ -212,7 +194,7 @@ mod tests {
                 0,
                 9,
             ),
-            refused(5, 1)
+            Err((5, 1))
         );
         assert_eq!(rt;
             outcome_of(
@@ -222,7 +204,7 @@ mod tests {
                 0,
                 8,
             ),
-            refused(5, 1)
+            Err((5, 1))
         );
         assert_eq!(rt;
             outcome_of(
@@ -232,15 +214,15 @@ mod tests {
                 0,
                 8,
             ),
-            refused(5, 1)
+            Err((5, 1))
         );
         assert_eq!(rt;
             outcome_of(&[4, 0, 20, 0, 1, 0, 8, 0, 23, 0, 63, 0, 1, 0, 0, 0], 0, 8),
-            taken(1)
+            Ok(1)
         );
         assert_eq!(rt;
             outcome_of(&[4, 0, 20, 0, 1, 0, 8, 0, 23, 0, 64, 0, 1, 0, 0, 0], 0, 8),
-            refused(5, 1)
+            Err((5, 1))
         );
     }
 
@@ -255,7 +237,7 @@ mod tests {
                 0,
                 1,
             ),
-            refused(18, 2)
+            Err((18, 2))
         );
         assert_eq!(rt;
             outcome_of(
@@ -265,7 +247,7 @@ mod tests {
                 0,
                 1,
             ),
-            refused(5, 2)
+            Err((5, 2))
         );
         assert_eq!(rt;
             outcome_of(
@@ -275,7 +257,7 @@ mod tests {
                 0,
                 1,
             ),
-            taken(2)
+            Ok(2)
         );
         assert_eq!(rt;
             outcome_of(
@@ -285,7 +267,7 @@ mod tests {
                 0,
                 1,
             ),
-            refused(18, 2)
+            Err((18, 2))
         );
         assert_eq!(rt;
             outcome_of(
@@ -295,7 +277,7 @@ mod tests {
                 1,
                 1,
             ),
-            refused(18, 2)
+            Err((18, 2))
         );
     }
 
@@ -310,7 +292,7 @@ mod tests {
                 0,
                 2,
             ),
-            refused(18, 2)
+            Err((18, 2))
         );
         assert_eq!(rt;
             outcome_of(
@@ -321,7 +303,7 @@ mod tests {
                 0,
                 2,
             ),
-            taken(2)
+            Ok(2)
         );
         assert_eq!(rt;
             outcome_of(
@@ -332,7 +314,7 @@ mod tests {
                 0,
                 2,
             ),
-            taken(2)
+            Ok(2)
         );
         assert_eq!(rt;
             outcome_of(
@@ -343,20 +325,17 @@ mod tests {
                 0,
                 2,
             ),
-            taken(2)
+            Ok(2)
         );
     }
 
     #[test]
-    fn what_is_kept(rt: HostRuntime) -> Result<(), Fail> {
+    fn what_is_kept(rt: HostRuntime) -> Result<(), Refusal> {
         let bytes = [
             4, 0, 20, 0, 2, 0, 8, 0, 21, 0, 0, 0, 3, 0, 0, 0, 12, 0, 22, 0, 8, 0, 1, 0, 1, 0, 2, 0,
             0, 0, 8, 0, 23, 0, 5, 0, 1, 0, 0, 0, 6, 0, 24, 0, 0, 0, 1, 0,
         ];
-        let file = File::new(&bytes);
-        let Ok(model) = read_model(file, LabelCount(1), 2) else {
-            return Err(Fail::new("a model"));
-        };
+        let model = read_model(File::try_from(&bytes[..])?, LabelCount(1), 2)?;
         assert_eq!(rt; model.principals, 2);
         assert_eq!(rt; model.rows.above(World(0)).0, 3);
         assert_eq!(rt; model.rows.above(World(1)).0, 0);

@@ -6,8 +6,11 @@ use Rattle.sketches.proofs.sketch.Sketch.take.Goals as goal
 
 pub returns : goal.returns
 returns c = λ W es h.
-    taken c.args.ranges.principals c.args.ranges.labels.0 W c.args.at.0 (record_of c.args.raw) es c.in_ok-entry.entry c.args.self.now c.put.new.self h
+    let r = c.args.record in
+    let ranges = c.args.ranges in
+    let entry = c.in_ok-entry.entry in
+    taken ranges.principals ranges.labels.0 W r.at.0 (record_of r.raw) es entry c.args.self.now c.put.new.self h
     c.in_ok-entry.ensures
-    (subst (λ v. true ≡ fits_entry v c.args.ranges.principals c.args.ranges.labels.0 c.in_ok-entry.entry) c.worlds.ensures.count c.if-not-entry_fits.ensures)
+    (subst (λ v. true ≡ fits_entry v ranges.principals ranges.labels.0 entry) c.worlds.ensures.count c.if-not-fits.ensures)
     c.if-has.ensures
     c.put.ensures
