@@ -7,7 +7,7 @@ use Rattle.packs.specs.ISsMeaning.{SaysSays}
 use Rattle.packs.specs.C2pMeaning.{ControlsPermits}
 use Rattle.packs.specs.DelCMeaning.{Delegates}
 use Rattle.packs.specs.RsMeaning.{SaysRatified}
-use Rattle.packs.proofs.Worlds.{T_and, T_if, T_every, T_any}
+use Rattle.logic.proofs.Bools.{T_and, T_if, T_every, T_any}
 use Rattle.axioms.specs.Valid.{Valid, says_said, controls_permitted, delegation, ratified_said}
 
 -- a test at all ends of arrows

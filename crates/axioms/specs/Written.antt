@@ -13,7 +13,7 @@ use Rattle.packs.specs.ISsMeaning.{SaysSays}
 use Rattle.packs.specs.C2pMeaning.{ControlsPermits}
 use Rattle.packs.specs.DelCMeaning.{Delegates}
 use Rattle.packs.specs.RsMeaning.{SaysRatified}
-use Rattle.packs.proofs.Worlds.{T_true}
+use Rattle.piles.proofs.Passing.{T_true}
 use Rattle.axioms.specs.InWords.{InWords, Agree, Alone, SaysWithoutRatified, FourAxioms, AsPublished}
 use Rattle.axioms.specs.Axioms.{i_ss_valid, c2p_valid, del_c_valid, rs_valid}
 

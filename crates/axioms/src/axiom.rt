@@ -40,8 +40,6 @@ impl StandsFor for Rs {
 }
 
 // The layer's axiom holds at every world of every model that keeps the rules and meets its condition.
-pub fn axiom_stands<L: StandsFor>(layer: &L) -> u8
+pub fn axiom_stands<L: StandsFor>(layer: &L)
     ensures { Valid L.StandsFor.scheme (L.Layer.condition layer.now) }
-{
-    0
-}
+{}

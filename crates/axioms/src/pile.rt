@@ -21,15 +21,11 @@ impl PublishedPile for Published {
 
 // The pile admits the models that its words say, each condition fails alone somewhere, the axioms hold where the pile
 // admits, and the turned axiom does not.
-pub fn pile_stands<K: PublishedPile>(pile: &K) -> u8
+pub fn pile_stands<K: PublishedPile>(pile: &K)
     ensures { AsPublished (K.Pack.conditions pile.now) }
-{
-    0
-}
+{}
 
 // The pile has four kinds, with the bodies and steps that its words say.
-pub fn steps_stand<K: PublishedPile>(pile: &K) -> u8
+pub fn steps_stand<K: PublishedPile>(pile: &K)
     ensures { StepsInWords (K.Pack.layouts pile.now) (K.Pack.readings pile.now) }
-{
-    0
-}
+{}

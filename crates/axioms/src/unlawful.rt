@@ -2,15 +2,11 @@
 ghost use Rattle.axioms.specs.Unlawful.{FromNothing, RsTurned};
 
 // Without a condition an arrow of says cannot be read from no fact.
-pub fn nothing_says() -> u8
+pub fn nothing_says()
     ensures { FromNothing }
-{
-    0
-}
+{}
 
 // Under the condition of RS its step cannot be turned about.
-pub fn ratified_does_not_say() -> u8
+pub fn ratified_does_not_say()
     ensures { RsTurned }
-{
-    0
-}
+{}

@@ -32,13 +32,13 @@ abbrev Told : Reading → Type 0
 Told r = r ≡ Unknown → ⊥
 
 none_told : Told NoInstance
-none_told e = let z : ◌≡◌ {A = ℕ} 0 1 = cc in omega arith
+none_told e = cc
 
 goes_told : (q : _) → Told (Goes q)
-goes_told q e = let z : ◌≡◌ {A = ℕ} 0 1 = cc in omega arith
+goes_told q e = cc
 
 splits_told : (q r : _) → Told (Splits q r)
-splits_told q r e = let z : ◌≡◌ {A = ℕ} 0 1 = cc in omega arith
+splits_told q r e = cc
 
 abbrev Refused : Reading → Type 0
 Refused r = r ≡ NoInstance

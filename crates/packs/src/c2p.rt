@@ -1,12 +1,12 @@
 // C2P: at a label x some y with x C_A y and x P_A y.
 ghost use Rattle.std.specs.Prelude.{◌≡◌, Decides};
-ghost use Rattle.logic.specs.ModelRules.{Each};
 ghost use Rattle.rows.specs.RowsOf.{frame_of};
-ghost use Rattle.packs.specs.C2pMeaning.{SharedEnd, ControlsPermits, c2p_layout, c2p_reading};
+ghost use Rattle.packs.specs.C2pMeaning.{ControlsPermits, c2p_layout, c2p_reading};
 ghost use Rattle.packs.specs.Laws.{c2p_laws};
+ghost use Rattle.packs.specs.Tests.{shared_test};
 
-use crate::sets::{Bundle, share_an_end};
 use logic::terms::{Link, Modality};
+use piles::each::{at_each_world, of_each_principal};
 use piles::layer::Layer;
 use piles::terms::{Arity, Layout, Named, Operands, Premise, Reading};
 use records::numbers::{Label, Principal, World};
@@ -32,45 +32,26 @@ fn shared_reading(operands: Operands, labels: u16) -> Reading
 
 // Whether a controls arrow and a permitted arrow of A from x have an end in common.
 fn shared_end(rows: &Rows, a: Principal, x: World) -> bool
-    ensures { Decides result (SharedEnd (frame_of rows.now) a.0 x.0) }
+    ensures { result ≡ shared_test (frame_of rows.now) a.0 x.0 }
 {
-    let controls = Bundle {
-        modality: Modality::Controls,
-        principal: a,
-        from: x,
-    };
-    let permitted = Bundle {
-        modality: Modality::Permitted,
-        principal: a,
-        from: x,
-    };
-    share_an_end(rows, controls, permitted)
-}
-
-fn shared_from_each(rows: &Rows, a: Principal) -> bool
-    ensures { Decides result (Each (frame_of rows.now) (SharedEnd (frame_of rows.now) a.0)) }
-{
-    for x in 0..rows.worlds() {
-        if !shared_end(rows, a, World(x)) {
-            return false;
-        }
-    }
-    true
+    let controls = rows.ends(Modality::Controls, a, x);
+    let permitted = rows.ends(Modality::Permitted, a, x);
+    controls.meets(permitted)
 }
 
 fn controls_permits(rows: &Rows, principals: u16) -> bool
     ensures { Decides result (ControlsPermits principals (frame_of rows.now)) }
 {
-    for a in 0..principals {
-        if !shared_from_each(rows, Principal(a)) {
-            return false;
-        }
-    }
-    true
+    of_each_principal(
+        principals,
+        |a| at_each_world(rows, |x| shared_end(rows, a, x)),
+    )
 }
 
 impl Layer for C2p {
     const KIND: u16 = 65;
+
+    ghost KIND = { 65 };
 
     const OPERANDS: Layout = Layout {
         positions: Arity::Zero,
@@ -78,23 +59,13 @@ impl Layer for C2p {
         principal: true,
     };
 
-    ghost number = { 65 };
-
-    ghost layout = { c2p_layout };
+    ghost OPERANDS = { c2p_layout };
 
     ghost condition = { λ _. ControlsPermits };
 
     ghost reading = { λ _ o _ n. c2p_reading o n };
 
     ghost own = { c2p_laws };
-
-    fn own_kind(&self) -> u16 {
-        Self::KIND
-    }
-
-    fn own_body(&self) -> Layout {
-        Self::OPERANDS
-    }
 
     fn read_own(&self, operands: Operands, _principals: u16, labels: u16) -> Reading {
         shared_reading(operands, labels)

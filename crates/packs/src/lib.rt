@@ -6,4 +6,3 @@ pub mod del_c;
 pub mod i_ss;
 pub mod published;
 pub mod rs;
-mod sets;

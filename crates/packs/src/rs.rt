@@ -6,13 +6,13 @@ ghost use Rattle.logic.specs.declared.terms.FactView.TheVariants.{Linked};
 ghost use Rattle.piles.specs.declared.terms.Premise.TheVariants.{Adds};
 ghost use Rattle.piles.specs.declared.terms.Reading.TheVariants.{Goes};
 ghost use Rattle.piles.specs.Instances.{of_arrow};
-ghost use Rattle.logic.specs.ModelRules.{Each};
 ghost use Rattle.rows.specs.RowsOf.{frame_of};
-ghost use Rattle.packs.specs.RsMeaning.{RatifiedAt, SaysRatified, rs_layout, rs_reading};
+ghost use Rattle.packs.specs.RsMeaning.{SaysRatified, rs_layout, rs_reading};
 ghost use Rattle.packs.specs.Laws.{rs_laws};
+ghost use Rattle.packs.specs.Tests.{ratified_test};
 
-use crate::sets::{Bundle, every_end_in};
 use logic::terms::{FactView, Link, Modality};
+use piles::each::{at_each_world, of_each_principal};
 use piles::layer::Layer;
 use piles::terms::{Arity, Layout, Named, Operands, Premise, Reading};
 use records::numbers::{Label, Principal, World};
@@ -44,45 +44,26 @@ fn ratified_reading(operands: Operands) -> Reading
 
 // Whether the ends of A's says arrows from x are ends of its ratified arrows.
 fn ratified_at(rows: &Rows, a: Principal, x: World) -> bool
-    ensures { Decides result (RatifiedAt (frame_of rows.now) a.0 x.0) }
+    ensures { result ≡ ratified_test (frame_of rows.now) a.0 x.0 }
 {
-    let says = Bundle {
-        modality: Modality::Says,
-        principal: a,
-        from: x,
-    };
-    let ratified = Bundle {
-        modality: Modality::Ratified,
-        principal: a,
-        from: x,
-    };
-    every_end_in(rows, says, ratified)
-}
-
-fn ratified_from_all(rows: &Rows, a: Principal) -> bool
-    ensures { Decides result (Each (frame_of rows.now) (RatifiedAt (frame_of rows.now) a.0)) }
-{
-    for x in 0..rows.worlds() {
-        if !ratified_at(rows, a, World(x)) {
-            return false;
-        }
-    }
-    true
+    let says = rows.ends(Modality::Says, a, x);
+    let ratified = rows.ends(Modality::Ratified, a, x);
+    says.within(ratified)
 }
 
 fn says_ratified(rows: &Rows, principals: u16) -> bool
     ensures { Decides result (SaysRatified principals (frame_of rows.now)) }
 {
-    for a in 0..principals {
-        if !ratified_from_all(rows, Principal(a)) {
-            return false;
-        }
-    }
-    true
+    of_each_principal(
+        principals,
+        |a| at_each_world(rows, |x| ratified_at(rows, a, x)),
+    )
 }
 
 impl Layer for Rs {
     const KIND: u16 = 67;
+
+    ghost KIND = { 67 };
 
     const OPERANDS: Layout = Layout {
         positions: Arity::One,
@@ -90,23 +71,13 @@ impl Layer for Rs {
         principal: false,
     };
 
-    ghost number = { 67 };
-
-    ghost layout = { rs_layout };
+    ghost OPERANDS = { rs_layout };
 
     ghost condition = { λ _. SaysRatified };
 
     ghost reading = { λ _ o _ _. rs_reading o };
 
     ghost own = { rs_laws };
-
-    fn own_kind(&self) -> u16 {
-        Self::KIND
-    }
-
-    fn own_body(&self) -> Layout {
-        Self::OPERANDS
-    }
 
     fn read_own(&self, operands: Operands, _principals: u16, _labels: u16) -> Reading {
         ratified_reading(operands)

@@ -1,5 +1,5 @@
 -- The quiet layer keeps its laws. Assumes nothing.
-use Rattle.std.specs.Prelude.{◌≡◌, ℕ, true, false, refl}
+use Rattle.std.specs.Prelude.{◌≡◌, true, false, refl}
 use Rattle.std.proofs.Common.{arith}
 use Rattle.piles.specs.declared.terms.Arity.TheVariants.{One}
 use Rattle.piles.specs.declared.terms.Reading.TheVariants.{Unknown, NoInstance}
@@ -7,7 +7,7 @@ use Rattle.piles.specs.Layers.{LayerLaws}
 use Rattle.pile_tests.specs.declared.quiet.Quiet.{Quiet}
 
 known : NoInstance ≡ Unknown → ⊥
-known e = let z : ◌≡◌ {A = ℕ} 0 1 = cc in omega arith
+known e = cc
 
 pub quiet_laws : LayerLaws {L = Quiet} 67 (record { positions = One; label = false; principal = true }) (λ _ P F. Unit {0}) (λ _ o P n. NoInstance)
 quiet_laws = record {

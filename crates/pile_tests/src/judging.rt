@@ -9,7 +9,7 @@ use packs::rs::*;
 use piles::bare::*;
 use piles::laid::*;
 use piles::pack::Pack;
-use records::numbers::{Principal, World};
+use records::numbers::{ConditionPlace, Principal, World};
 use rows::masks::WorldSet;
 use rows::rows::Rows;
 use std::test::Fail;
@@ -25,9 +25,7 @@ fn set(rows: &mut Rows, modality: Modality, principal: u16, ends: Ends) {
 
 // Two worlds and the arrows of principal 0.
 fn two_worlds(says: Ends, controls: Ends, ratified: Ends, permitted: Ends) -> Result<Rows, Fail> {
-    let Some(mut rows) = Rows::new(2) else {
-        return Err(Fail::new("no rows"));
-    };
+    let mut rows = Rows::new(2).ok_or_else(|| Fail::new("no rows"))?;
     set(&mut rows, Modality::Says, 0, says);
     set(&mut rows, Modality::Controls, 0, controls);
     set(&mut rows, Modality::Ratified, 0, ratified);
@@ -35,13 +33,9 @@ fn two_worlds(says: Ends, controls: Ends, ratified: Ends, permitted: Ends) -> Re
     Ok(rows)
 }
 
-// The place that the published pile answers; 9 where every condition holds.
-fn place(rows: &Rows, principals: u16) -> u16 {
-    let pile = published();
-    match pile.judge(rows, principals) {
-        None => 9,
-        Some(place) => place.0,
-    }
+// The place that the published pile answers, if a condition fails.
+fn place(rows: &Rows, principals: u16) -> Option<ConditionPlace> {
+    published().judge(rows, principals)
 }
 
 const EVERY: Ends = Ends(3, 3);
@@ -51,7 +45,7 @@ const NONE: Ends = Ends(0, 0);
 #[test]
 fn every_arrow_is_admitted(rt: HostRuntime) -> Result<(), Fail> {
     let rows = two_worlds(EVERY, EVERY, EVERY, EVERY)?;
-    assert_eq!(rt; place(&rows, 1), 9);
+    assert_eq!(rt; place(&rows, 1), None);
     Ok(())
 }
 
@@ -59,7 +53,7 @@ fn every_arrow_is_admitted(rt: HostRuntime) -> Result<(), Fail> {
 #[test]
 fn i_ss_is_first(rt: HostRuntime) -> Result<(), Fail> {
     let rows = two_worlds(Ends(2, 1), EVERY, EVERY, EVERY)?;
-    assert_eq!(rt; place(&rows, 1), 0);
+    assert_eq!(rt; place(&rows, 1), Some(ConditionPlace(0)));
     Ok(())
 }
 
@@ -67,7 +61,7 @@ fn i_ss_is_first(rt: HostRuntime) -> Result<(), Fail> {
 #[test]
 fn c2p_is_second(rt: HostRuntime) -> Result<(), Fail> {
     let rows = two_worlds(EVERY, Ends(3, 1), EVERY, Ends(3, 2))?;
-    assert_eq!(rt; place(&rows, 1), 1);
+    assert_eq!(rt; place(&rows, 1), Some(ConditionPlace(1)));
     Ok(())
 }
 
@@ -77,12 +71,12 @@ fn del_c_is_third(rt: HostRuntime) -> Result<(), Fail> {
     let mut rows = two_worlds(NONE, EVERY, NONE, EVERY)?;
     set(&mut rows, Modality::Controls, 1, Ends(1, 1));
     set(&mut rows, Modality::Permitted, 1, EVERY);
-    assert_eq!(rt; place(&rows, 2), 2);
-    assert_eq!(rt; place(&rows, 1), 9);
+    assert_eq!(rt; place(&rows, 2), Some(ConditionPlace(2)));
+    assert_eq!(rt; place(&rows, 1), None);
     // principal 1 says to world 0, from where principal 0 controls up to world 1
     set(&mut rows, Modality::Says, 1, Ends(1, 1));
     set(&mut rows, Modality::Ratified, 1, Ends(1, 1));
-    assert_eq!(rt; place(&rows, 2), 9);
+    assert_eq!(rt; place(&rows, 2), None);
     Ok(())
 }
 
@@ -90,7 +84,7 @@ fn del_c_is_third(rt: HostRuntime) -> Result<(), Fail> {
 #[test]
 fn rs_is_fourth(rt: HostRuntime) -> Result<(), Fail> {
     let rows = two_worlds(EVERY, EVERY, Ends(3, 1), EVERY)?;
-    assert_eq!(rt; place(&rows, 1), 3);
+    assert_eq!(rt; place(&rows, 1), Some(ConditionPlace(3)));
     Ok(())
 }
 
@@ -98,7 +92,7 @@ fn rs_is_fourth(rt: HostRuntime) -> Result<(), Fail> {
 #[test]
 fn more_ratified_than_said(rt: HostRuntime) -> Result<(), Fail> {
     let rows = two_worlds(Ends(1, 1), EVERY, EVERY, EVERY)?;
-    assert_eq!(rt; place(&rows, 1), 9);
+    assert_eq!(rt; place(&rows, 1), None);
     Ok(())
 }
 
@@ -106,7 +100,7 @@ fn more_ratified_than_said(rt: HostRuntime) -> Result<(), Fail> {
 #[test]
 fn the_first_counts(rt: HostRuntime) -> Result<(), Fail> {
     let rows = two_worlds(Ends(2, 1), EVERY, NONE, EVERY)?;
-    assert_eq!(rt; place(&rows, 1), 0);
+    assert_eq!(rt; place(&rows, 1), Some(ConditionPlace(0)));
     Ok(())
 }
 
@@ -137,13 +131,8 @@ fn a_deep_pile(rt: HostRuntime) -> Result<(), Fail> {
             },
         },
     };
-    match pile.judge(&rows, 1) {
-        None => Err(Fail::new("admitted")),
-        Some(place) => {
-            assert_eq!(rt; place.0, 6);
-            Ok(())
-        },
-    }
+    assert_eq!(rt; pile.judge(&rows, 1), Some(ConditionPlace(6)));
+    Ok(())
 }
 
 // The same layer twice has two places, and the upper one is answered.
@@ -157,13 +146,8 @@ fn a_layer_twice(rt: HostRuntime) -> Result<(), Fail> {
             below: Bare,
         },
     };
-    match pile.judge(&rows, 1) {
-        None => Err(Fail::new("admitted")),
-        Some(place) => {
-            assert_eq!(rt; place.0, 0);
-            Ok(())
-        },
-    }
+    assert_eq!(rt; pile.judge(&rows, 1), Some(ConditionPlace(0)));
+    Ok(())
 }
 
 // A kind that another layer shadows keeps its condition.
@@ -177,11 +161,6 @@ fn a_shadowed_condition(rt: HostRuntime) -> Result<(), Fail> {
             below: Bare,
         },
     };
-    match pile.judge(&rows, 1) {
-        None => Err(Fail::new("admitted")),
-        Some(place) => {
-            assert_eq!(rt; place.0, 1);
-            Ok(())
-        },
-    }
+    assert_eq!(rt; pile.judge(&rows, 1), Some(ConditionPlace(1)));
+    Ok(())
 }

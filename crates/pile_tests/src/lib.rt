@@ -6,4 +6,3 @@ mod judging;
 pub mod quiet;
 #[cfg(test)]
 mod reading;
-pub mod shown;

@@ -14,29 +14,21 @@ pub struct Quiet;
 impl Layer for Quiet {
     const KIND: u16 = 67;
 
+    ghost KIND = { 67 };
+
     const OPERANDS: Layout = Layout {
         positions: Arity::One,
         label: false,
         principal: true,
     };
 
-    ghost number = { 67 };
-
-    ghost layout = { record { positions = One; label = false; principal = true } };
+    ghost OPERANDS = { record { positions = One; label = false; principal = true } };
 
     ghost condition = { λ _ P F. Unit {0} };
 
     ghost reading = { λ _ o P n. NoInstance };
 
     ghost own = { quiet_laws };
-
-    fn own_kind(&self) -> u16 {
-        Self::KIND
-    }
-
-    fn own_body(&self) -> Layout {
-        Self::OPERANDS
-    }
 
     fn read_own(&self, _operands: Operands, _principals: u16, _labels: u16) -> Reading {
         Reading::NoInstance

@@ -1,6 +1,7 @@
 -- What is true of every way in which operands are taken apart. Assumes nothing.
-use Rattle.std.proofs.Common.{◌≡◌, ℕ, ◌<◌, Bool, true, false, cond, T, eqb, Some, None, Option, sym, refl, ap, subst, ap₂, inl, inr, arith, eqb→eq}
+use Rattle.std.proofs.Common.{◌≡◌, ℕ, ◌<◌, Bool, true, false, cond, T, eqb, Some, None, Option, sym, refl, ap, ◌∙◌, subst, ap₂, inl, inr, arith, eqb→eq}
 use Rattle.std.proofs.lemmas.Bool.{eq-eqb, ne_eqb}
+use Rattle.std.proofs.lemmas.Option.{same_Some}
 use Rattle.records.specs.declared.numbers.Label.{Label}
 use Rattle.records.specs.declared.numbers.World.{World}
 use Rattle.records.specs.declared.numbers.Principal.{Principal}
@@ -9,6 +10,7 @@ use Rattle.logic.specs.declared.terms.Modality.TheVariants.{Says, Controls, Rati
 use Rattle.logic.specs.declared.terms.Link.TheVariants.{Order, Arrow}
 use Rattle.logic.specs.declared.terms.FactView.{FactView}
 use Rattle.logic.specs.declared.terms.FactView.TheVariants.{Left, Right, Linked}
+use Rattle.logic.specs.Modalities.{modality_number, numbered_modality}
 use Rattle.logic.specs.Models.{Frame}
 use Rattle.logic.specs.Facts.{Standing, linked}
 use Rattle.piles.specs.declared.terms.Named.{Named}
@@ -52,23 +54,15 @@ all_any Nothing = tt
 all_any (Single f) = tt
 all_any (Pair f g) = (tt, tt)
 
+-- a modality is found again by its number
+named : (k : Modality) → numbered_modality (modality_number k) ≡ Some k
+named Says = refl
+named Controls = refl
+named Ratified = refl
+named Permitted = refl
+
 modality_same : (j k : Modality) → T (same_modality j k) → j ≡ k
-modality_same Says Says t = refl
-modality_same Says Controls t = absurd t
-modality_same Says Ratified t = absurd t
-modality_same Says Permitted t = absurd t
-modality_same Controls Says t = absurd t
-modality_same Controls Controls t = refl
-modality_same Controls Ratified t = absurd t
-modality_same Controls Permitted t = absurd t
-modality_same Ratified Says t = absurd t
-modality_same Ratified Controls t = absurd t
-modality_same Ratified Ratified t = refl
-modality_same Ratified Permitted t = absurd t
-modality_same Permitted Says t = absurd t
-modality_same Permitted Controls t = absurd t
-modality_same Permitted Ratified t = absurd t
-modality_same Permitted Permitted t = refl
+modality_same j k t = same_Some j k (sym (named j) ∙ ap numbered_modality (eqb→eq (modality_number j) (modality_number k) t) ∙ named k)
 
 label_same : (x y : Label) → x.0 ≡ y.0 → x ≡ y
 label_same x y e = ap (λ (i : ℕ). new_label i) e

@@ -1,2 +1,3 @@
 pub mod Instances
 pub mod Judging
+pub mod Passing

@@ -1,6 +1,7 @@
 -- A layer that keeps its laws, on a pack that keeps its own, is a pack that does. Assumes nothing.
 use Rattle.std.proofs.Common.{◌≡◌, ℕ, Bool, true, false, cond, T, eqb, List, Some, None, Option, sym, ◌∙◌, subst, arith}
 use Rattle.std.proofs.lemmas.Bool.{ne_eqb, cond-false}
+use Rattle.std.proofs.lemmas.Option.{same_Some}
 use Rattle.piles.specs.declared.terms.Layout.{Layout}
 use Rattle.piles.specs.declared.terms.Operands.{Operands}
 use Rattle.piles.specs.declared.terms.Reading.{Reading}
@@ -10,16 +11,9 @@ use Rattle.piles.specs.Readings.{Respects, ReadingUses, Usable}
 use Rattle.piles.specs.Packs.{Condition, Readings, Laws}
 use Rattle.piles.specs.Layers.{LayerLaws, laid_conditions, laid_layouts, laid_readings}
 
--- a body told is the body told
-some_same : (a b : Layout) → Some a ≡ Some b → a ≡ b
-some_same a b e = cc
-
-some_none : (a : Layout) → Some a ≡ None → ⊥
-some_none a e = let z : ◌≡◌ {A = ℕ} 0 1 = cc in omega arith
-
 -- asked with one of two equal bodies is asked with the other
 as_told : {P n : ℕ} {o : Operands} (a b : Layout) → Some a ≡ Some b → AskedAs b P n o → AskedAs a P n o
-as_told {P} {n} {o} a b e asked = subst (λ (l : Layout). AskedAs l P n o) (sym (some_same a b e)) asked
+as_told {P} {n} {o} a b e asked = subst (λ (l : Layout). AskedAs l P n o) (sym (same_Some a b e)) asked
 
 -- whatever is true of the layer's reading, and of the reading below, where either's body is told, is true of the laid one's
 laid_told : (Good : Reading → Type 0) {P n : ℕ} {o : Operands} (own : Bool) (a : Layout) (below : Option Layout) (r s : Reading) (b : Layout) →
@@ -29,7 +23,7 @@ laid_told Good false a below r s b mine theirs e asked = theirs e asked
 
 -- where no body is told, the layer's kind is not meant
 laid_untold : (own : Bool) (a : Layout) (below : Option Layout) (r s : Reading) → (below ≡ None → s ≡ Unknown) → cond own (Some a) below ≡ None → cond own r s ≡ Unknown
-laid_untold true a below r s theirs e = absurd (some_none a e)
+laid_untold true a below r s theirs e = cc
 laid_untold false a below r s theirs e = theirs e
 
 module _ {S L B : Type 0} (layer : S → L) (under : S → B) (own : ℕ) (a : Layout) {condition : L → Condition} {reading : L → Operands → ℕ → ℕ → Reading} (mine : LayerLaws own a condition reading) {cs : B → List Condition} {ls : B → ℕ → Option Layout} {rs : B → Readings} (theirs : Laws cs ls rs) where

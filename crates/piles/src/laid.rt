@@ -26,22 +26,22 @@ fn one_further(place: ConditionPlace) -> ConditionPlace
 impl<L: Layer, B: Pack> Pack for Laid<L, B> {
     ghost conditions = { λ s. laid_conditions (L.Layer.condition s.layer) (B.Pack.conditions s.below) };
 
-    ghost layouts = { λ s. laid_layouts L.Layer.number L.Layer.layout (B.Pack.layouts s.below) };
+    ghost layouts = { λ s. laid_layouts L.Layer.KIND L.Layer.OPERANDS (B.Pack.layouts s.below) };
 
-    ghost readings = { λ s. laid_readings L.Layer.number (L.Layer.reading s.layer) (B.Pack.readings s.below) };
+    ghost readings = { λ s. laid_readings L.Layer.KIND (L.Layer.reading s.layer) (B.Pack.readings s.below) };
 
-    ghost lawful = { laid_laws (λ (s : Laid L B). s.layer) (λ (s : Laid L B). s.below) L.Layer.number L.Layer.layout L.Layer.own B.Pack.lawful };
+    ghost lawful = { laid_laws (λ (s : Laid L B). s.layer) (λ (s : Laid L B). s.below) L.Layer.KIND L.Layer.OPERANDS L.Layer.own B.Pack.lawful };
 
     fn body(&self, kind: u16) -> Option<Layout> {
-        if kind == self.layer.own_kind() {
-            Some(self.layer.own_body())
+        if kind == L::KIND {
+            Some(L::OPERANDS)
         } else {
             self.below.body(kind)
         }
     }
 
     fn read(&self, kind: u16, operands: Operands, principals: u16, labels: u16) -> Reading {
-        if kind == self.layer.own_kind() {
+        if kind == L::KIND {
             self.layer.read_own(operands, principals, labels)
         } else {
             self.below.read(kind, operands, principals, labels)
@@ -52,9 +52,6 @@ impl<L: Layer, B: Pack> Pack for Laid<L, B> {
         if !self.layer.holds_in(rows, principals) {
             return Some(ConditionPlace(0));
         }
-        match self.below.judge(rows, principals) {
-            None => None,
-            Some(place) => Some(one_further(place)),
-        }
+        self.below.judge(rows, principals).map(one_further)
     }
 }

@@ -11,26 +11,20 @@ use crate::terms::{Layout, Operands, Reading};
 use rows::rows::Rows;
 
 pub trait Layer {
+    // the kind, and its body
     const KIND: u16;
+
+    ghost KIND: { ℕ };
 
     const OPERANDS: Layout;
 
-    // the kind and its body
-    ghost number: { ℕ };
-
-    ghost layout: { Layout };
+    ghost OPERANDS: { Layout };
 
     // the condition on order and arrows
     ghost condition: { Self → Condition };
 
     // what a step of the kind adds: operands, number of principals, label count
     ghost reading: { Self → Operands → ℕ → ℕ → Reading };
-
-    fn own_kind(&self) -> u16
-        ensures { result ≡ number };
-
-    fn own_body(&self) -> Layout
-        ensures { result ≡ layout };
 
     fn read_own(&self, operands: Operands, principals: u16, labels: u16) -> Reading
         ensures { result ≡ reading self.now operands principals labels };
@@ -40,5 +34,5 @@ pub trait Layer {
         ensures { Decides result (condition self.now principals (frame_of rows.now)) };
 
     // what each layer shows
-    ghost own: { LayerLaws number layout condition reading };
+    ghost own: { LayerLaws KIND OPERANDS condition reading };
 }

@@ -2,6 +2,7 @@
 #![tactic(auto)]
 
 pub mod bare;
+pub mod each;
 pub mod laid;
 pub mod layer;
 pub mod pack;

@@ -21,6 +21,7 @@ pub trait Pack {
     fn body(&self, kind: u16) -> Option<Layout>
         ensures { result ≡ layouts self.now kind };
 
+    // operands, principals and labels stay three, as the ghost member takes them: what a pack means is told of the three apart
     fn read(&self, kind: u16, operands: Operands, principals: u16, labels: u16) -> Reading
         ensures { result ≡ readings self.now kind operands principals labels };
 

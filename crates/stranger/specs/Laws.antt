@@ -15,7 +15,7 @@ use Rattle.piles.specs.Readings.{Follows, ReadingUses, Usable, GivenIs}
 use Rattle.piles.specs.Layers.{LayerLaws}
 use Rattle.piles.specs.Instances.{of_none}
 use Rattle.piles.proofs.Instances.{of_none_good, of_label_good, arrow_old}
-use Rattle.packs.proofs.Worlds.{T_if, T_every}
+use Rattle.logic.proofs.Bools.{T_if, T_every}
 use Rattle.stranger.specs.declared.believed.Believed.{Believed}
 use Rattle.stranger.specs.BelievedMeaning.{SaysWhatIs, SaidIsSo, believed_layout, believed_reading}
 
@@ -31,10 +31,10 @@ abbrev Told : Reading → Type 0
 Told r = r ≡ Unknown → ⊥
 
 none_told : Told NoInstance
-none_told e = let z : ◌≡◌ {A = ℕ} 0 1 = cc in omega arith
+none_told e = cc
 
 goes_told : (q : Premise) → Told (Goes q)
-goes_told q e = let z : ◌≡◌ {A = ℕ} 0 1 = cc in omega arith
+goes_told q e = cc
 
 formula : (m : Named) (r : Reading) → T (has_formula m) → of_none m r ≡ NoInstance
 formula Nothing r t = absurd t

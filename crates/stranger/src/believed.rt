@@ -5,10 +5,11 @@ ghost use Rattle.logic.specs.declared.terms.Link.TheVariants.{Arrow};
 ghost use Rattle.piles.specs.declared.terms.Premise.TheVariants.{Adds};
 ghost use Rattle.piles.specs.declared.terms.Reading.TheVariants.{NoInstance, Goes};
 ghost use Rattle.rows.specs.RowsOf.{frame_of};
-ghost use Rattle.stranger.specs.BelievedMeaning.{SaysHere, SaysWhatIs, SaidIsSo, believed_layout, believed_reading};
+ghost use Rattle.stranger.specs.BelievedMeaning.{SaysWhatIs, SaidIsSo, believed_layout, believed_reading};
 ghost use Rattle.stranger.specs.Laws.{believed_laws};
 
 use logic::terms::{Link, Modality};
+use piles::each::at_each_world;
 use piles::layer::Layer;
 use piles::terms::{Arity, Layout, Named, Operands, Premise, Reading};
 use records::numbers::{Label, Principal, World};
@@ -43,33 +44,19 @@ fn reading_of(who: Principal, operands: Operands, principals: u16) -> Reading
 fn says_at(rows: &Rows, who: Principal, x: World) -> bool
     ensures { x.0 < (frame_of rows.now).worlds → result ≡ (frame_of rows.now).arrow Says who.0 x.0 x.0 }
 {
-    let ends = rows.ends(Modality::Says, who, x);
-    ends.has(x)
-}
-
-fn says_everywhere(rows: &Rows, who: Principal) -> bool
-    ensures { Decides result (SaysHere (frame_of rows.now) who.0) }
-{
-    for x in 0..rows.worlds() {
-        if !says_at(rows, who, World(x)) {
-            return false;
-        }
-    }
-    true
+    rows.ends(Modality::Says, who, x).has(x)
 }
 
 fn says_what_is(rows: &Rows, who: Principal, principals: u16) -> bool
     ensures { Decides result (SaysWhatIs who principals (frame_of rows.now)) }
 {
-    if who.0 < principals {
-        says_everywhere(rows, who)
-    } else {
-        true
-    }
+    who.0 >= principals || at_each_world(rows, |x| says_at(rows, who, x))
 }
 
 impl Layer for Believed {
     const KIND: u16 = 100;
+
+    ghost KIND = { 100 };
 
     const OPERANDS: Layout = Layout {
         positions: Arity::Zero,
@@ -77,23 +64,13 @@ impl Layer for Believed {
         principal: false,
     };
 
-    ghost number = { 100 };
-
-    ghost layout = { believed_layout };
+    ghost OPERANDS = { believed_layout };
 
     ghost condition = { λ s. SaysWhatIs s.who };
 
     ghost reading = { λ s o P _. believed_reading s.who o P };
 
     ghost own = { believed_laws };
-
-    fn own_kind(&self) -> u16 {
-        Self::KIND
-    }
-
-    fn own_body(&self) -> Layout {
-        Self::OPERANDS
-    }
 
     fn read_own(&self, operands: Operands, principals: u16, _labels: u16) -> Reading {
         reading_of(self.who, operands, principals)
@@ -105,8 +82,6 @@ impl Layer for Believed {
 }
 
 // What the believed principal says holds wherever the condition does.
-pub fn said_is_so(layer: Believed) -> u8
+pub fn said_is_so(layer: Believed)
     ensures { SaidIsSo layer.who }
-{
-    0
-}
+{}

@@ -5,7 +5,7 @@ use packs::published::{Published, published};
 use piles::laid::*;
 use piles::pack::Pack;
 use piles::terms::{Named, Operands, Premise, Reading};
-use records::numbers::{Label, Principal, World};
+use records::numbers::{ConditionPlace, Label, Principal, World};
 use rows::masks::WorldSet;
 use rows::rows::Rows;
 use std::test::Fail;
@@ -18,25 +18,19 @@ fn pile() -> Laid<Believed, Published> {
     }
 }
 
-// 8 where every condition holds.
-fn place(rows: &Rows, principals: u16) -> u16 {
-    let pile = pile();
-    match pile.judge(rows, principals) {
-        None => 8,
-        Some(place) => place.0,
-    }
+// The place of the first condition that fails, if any.
+fn place(rows: &Rows, principals: u16) -> Option<ConditionPlace> {
+    pile().judge(rows, principals)
 }
 
 // In one world without arrows principal 1 does not say what is; with one principal only C2P fails, one place further.
 #[test]
 fn places_are_one_further(rt: HostRuntime) -> Result<(), Fail> {
-    let Some(mut rows) = Rows::new(1) else {
-        return Err(Fail::new("no rows"));
-    };
-    assert_eq!(rt; place(&rows, 2), 0);
-    assert_eq!(rt; place(&rows, 1), 2);
+    let mut rows = Rows::new(1).ok_or_else(|| Fail::new("no rows"))?;
+    assert_eq!(rt; place(&rows, 2), Some(ConditionPlace(0)));
+    assert_eq!(rt; place(&rows, 1), Some(ConditionPlace(2)));
     rows.set_ends(Modality::Says, Principal(1), World(0), WorldSet(1));
-    assert_eq!(rt; place(&rows, 2), 2);
+    assert_eq!(rt; place(&rows, 2), Some(ConditionPlace(2)));
     Ok(())
 }
 
@@ -49,20 +43,16 @@ fn of_label() -> Operands {
     }
 }
 
-fn is_own_arrow(reading: Reading) -> bool {
-    match reading {
-        Reading::Goes(Premise::Adds(Link::Arrow(Modality::Says, a, x, y))) => a.0 == 1
-            && x.0 == 3
-            && y.0 == 3,
-        _ => false,
-    }
+// The step adds 3 S_1 3.
+fn own_arrow() -> Reading {
+    Reading::Goes(Premise::Adds(Link::Arrow(Modality::Says, Principal(1), Label(3), Label(3))))
 }
 
 #[test]
 fn the_step_reads(rt: HostRuntime) {
     let pile = pile();
-    assert!(rt; is_own_arrow(pile.read(100, of_label(), 2, 5)));
-    assert!(rt; !is_own_arrow(pile.read(100, of_label(), 1, 5)));
+    assert_eq!(rt; pile.read(100, of_label(), 2, 5), own_arrow());
+    assert_eq!(rt; pile.read(100, of_label(), 1, 5), Reading::NoInstance);
     assert!(rt; pile.body(100).is_some());
     assert!(rt; pile.body(67).is_some());
     assert!(rt; pile.body(101).is_none());

@@ -1,5 +1,7 @@
-use Rattle.std.proofs.Common.{below_more}
+use Rattle.std.proofs.Common.{rules}
+use Rattle.rows.specs.RowsOf.{frame_of}
+use Rattle.packs.proofs.Meanings.{by_test, c2p_test, c2p_says}
 use Rattle.packs.proofs.c2p.controls_permits.Goals as goal
 
-pub loop-a-preserved : goal.loop-a-preserved
-loop-a-preserved c = below_more _ _ c.loop-a.invariant (c.shared_from_each.ensures.0 c.if-not-shared_from_each.false)
+pub returns : goal.returns
+returns c = by_test _ (c2p_test c.args.principals (frame_of c.args.rows.now)) (search rules) (c2p_says c.args.principals (frame_of c.args.rows.now))

@@ -1,5 +1,7 @@
-use Rattle.std.proofs.Common.{below_more}
+use Rattle.std.proofs.Common.{rules}
+use Rattle.rows.specs.RowsOf.{frame_of}
+use Rattle.packs.proofs.Meanings.{by_test, i_ss_test, i_ss_says}
 use Rattle.packs.proofs.i_ss.says_says.Goals as goal
 
-pub loop-a-preserved : goal.loop-a-preserved
-loop-a-preserved c = below_more _ _ c.loop-a.invariant (c.through_every.ensures.0 c.if-not-through_every.false)
+pub returns : goal.returns
+returns c = by_test _ (i_ss_test c.args.principals (frame_of c.args.rows.now)) (c.of_each_principal.ensures _ (λ a b k h. search rules)) (i_ss_says c.args.principals (frame_of c.args.rows.now))

@@ -1,9 +1,7 @@
-use Rattle.std.proofs.Common.{sym, ◌∙◌}
-use Rattle.packs.proofs.Worlds.{unless_in, when_in}
+use Rattle.std.proofs.Common.{◌∙◌}
+use Rattle.packs.proofs.Worlds.{within_test, if_passes}
 use Rattle.packs.proofs.i_ss.says_through.Goals as goal
 
-pub returns-else-has : goal.returns-else-has
-returns-else-has c h = unless_in _ _ _ _ c.ends-reached.ensures h (sym c.has.ensures ∙ c.if-has.false)
-
-pub returns-then-has : goal.returns-then-has
-returns-then-has c h = when_in _ _ _ _ _ c.ends-reached.ensures h (sym c.has.ensures ∙ c.if-has.true) c.leads_within.ensures
+pub returns-else-not-has : goal.returns-else-not-has
+returns-else-not-has c h =
+    if_passes _ _ _ _ c.if-not-has.false (c.has.ensures ∙ c.ends.ensures.bits _ h) (within_test _ _ _ _ _ _ c.ends-from_y.ensures c.ends-from_x.ensures c.within.ensures)

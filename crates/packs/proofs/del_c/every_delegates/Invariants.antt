@@ -1,8 +1,0 @@
-use Rattle.std.proofs.Common.{ℕ, ◌<◌}
-use Rattle.logic.specs.ModelRules.{Each}
-use Rattle.packs.specs.DelCMeaning.{DelegatesAt}
-use Rattle.rows.specs.RowsOf.{frame_of}
-use Rattle.packs.proofs.del_c.every_delegates.Given as goal
-
-abbrev pub invariant-loop-a : goal.invariant-loop-a
-invariant-loop-a l = (k : ℕ) → k < l.a → (B : ℕ) → B < l.principals → Each (frame_of l.rows) (DelegatesAt (frame_of l.rows) k B)
