@@ -1,62 +1,76 @@
--- The first fact of a list that fails a test, found one by one. Assumes nothing.
-use Rattle.std.proofs.Common.{◌≡◌, ℕ, zero, suc, ◌+◌, ◌<◌, Bool, true, false, not, T, List, [], ◌∷◌, map, length, get_or, take, Some, sym, refl, ap, ◌∙◌, subst, le_of_suc-le-suc, not-suc-le-zero, add-one, arith}
-use Rattle.std.specs.List.{slice_get, AllByRecursion}
+-- The first fact of a list that fails a test. Assumes nothing.
+use Rattle.std.proofs.Common.{◌≡◌, ℕ, suc, ◌+◌, ◌<◌, ◌≤◌, Bool, true, false, not, cond, ltb, T, List, [], ◌∷◌, map, length, Some, None, Option, sym, refl, ap, ◌∙◌, subst, arith}
+use Rattle.std.proofs.lemmas.Bool.{ltb-true, ltb-false}
+use Rattle.std.specs.List.{AllByRecursion, position_or_len}
+use Rattle.std.specs.Option.{option_map}
+use Rattle.records.specs.declared.numbers.FactPosition.{FactPosition}
 use Rattle.records.specs.declared.numbers.FormulaNumber.{FormulaNumber}
 use Rattle.logic.specs.declared.fact.Fact.{Fact}
 use Rattle.logic.specs.declared.terms.FactView.{FactView}
 use Rattle.logic.specs.Facts.{fact_map, facts_map}
 use Rattle.logic.specs.Models.{Formula}
 use Rattle.logic.specs.Stored.{stored}
-use Rattle.models.specs.Firsts.{FirstNot}
+use Rattle.models.specs.Firsts.{FirstNot, FirstNotOf}
 
--- one element more that passes
-all_more : {X : Type 0} (P : X → Type 0) (xs : List X) (i : ℕ) (x : X) → slice_get xs i ≡ Some x → P x → AllByRecursion P (take i xs) → AllByRecursion P (take (suc i) xs)
-all_more P [] i x e h a = tt
-all_more P (y ∷ ys) zero x e h a = let s : x ≡ y = cc in (subst P s h, tt)
-all_more P (y ∷ ys) (suc i) x e h a = (a.0, all_more P ys i x e h a.1)
+-- as many elements as pass before the first that fails, and one that passes before them
+more : (n : ℕ) → suc n ≡ 1 + n
+more n = omega arith
 
--- the first that fails
-first_at : {X : Type 0} (p : X → Bool) (xs : List X) (i : ℕ) (x : X) → slice_get xs i ≡ Some x → T (not (p x)) → AllByRecursion (λ y. T (p y)) (take i xs) → FirstNot p xs i
-first_at p [] i x e h a = let z : ◌≡◌ {A = ℕ} 0 1 = cc in absurd (omega arith)
-first_at p (y ∷ ys) zero x e h a = let s : x ≡ y = cc in subst (λ z. T (not (p z))) s h
-first_at p (y ∷ ys) (suc i) x e h a = (a.0, first_at p ys i x e h a.1)
+module _ {X : Type 0} (p : X → Bool) where
+  -- the place of the first element that fails
+  abbrev pub place : List X → ℕ
+  place xs = position_or_len (λ x. not (p x)) xs
 
--- the stored fact at a place, by what it says
-pub record ItemAt (fs : List (FactView FormulaNumber)) (i : ℕ) (x : Fact) : Type 0 where
-  pub view : FactView FormulaNumber
-  pub there : slice_get fs i ≡ Some view
-  pub stored_as : x ≡ stored view
+  -- it is the first, if there is one
+  fails_at : (xs : List X) → place xs < length xs → FirstNot p xs (place xs)
+  fails_at [] l = absurd (omega arith)
+  fails_at (x ∷ xs) l = go (p x) refl l (fails_at xs)
+    where
+      go : (b : Bool) → p x ≡ b → cond (not (not b)) (1 + place xs) 0 < suc (length xs) → (place xs < length xs → FirstNot p xs (place xs))
+          → FirstNot p (x ∷ xs) (cond (not (not b)) (1 + place xs) 0)
+      go true e l rest = subst (FirstNot p (x ∷ xs)) (more (place xs)) (subst (λ (b : Bool). T b) (sym e) tt, rest (omega (arith, l)))
+      go false e l rest = subst (λ (b : Bool). T (not b)) (sym e) tt
 
-item_at : (fs : List (FactView FormulaNumber)) (i : ℕ) (d : Fact) → i < length (map stored fs) → ItemAt fs i (get_or (map stored fs) i d)
-item_at [] i d h = absurd (not-suc-le-zero h)
-item_at (v ∷ fs) zero d h = record { view = v; there = refl; stored_as = refl }
-item_at (v ∷ fs) (suc i) d h =
-    let k = item_at fs i d (le_of_suc-le-suc h) in
-    record { view = k.view; there = k.there; stored_as = k.stored_as }
+  -- all pass, if there is none
+  pass_all : (xs : List X) → length xs ≤ place xs → AllByRecursion (λ x. T (p x)) xs
+  pass_all [] l = tt
+  pass_all (x ∷ xs) l = go (p x) refl l (pass_all xs)
+    where
+      go : (b : Bool) → p x ≡ b → suc (length xs) ≤ cond (not (not b)) (1 + place xs) 0 → (length xs ≤ place xs → AllByRecursion (λ x. T (p x)) xs)
+          → AllByRecursion (λ x. T (p x)) (x ∷ xs)
+      go true e l rest = (subst (λ (b : Bool). T b) (sym e) tt, rest (omega (arith, l)))
+      go false e l rest = absurd (omega (arith, l))
 
-pub item_of : (fs : List (FactView FormulaNumber)) (xs : List Fact) (i : ℕ) (d : Fact) → xs ≡ map stored fs → i < length xs → ItemAt fs i (get_or xs i d)
-item_of fs xs i d e h =
-    let k = item_at fs i d (subst (λ (ys : List Fact). i < length ys) e h) in
-    record { view = k.view; there = k.there; stored_as = ap (λ (ys : List Fact). get_or ys i d) e ∙ k.stored_as }
+  -- the search for it
+  pub first_of : (xs : List X) → FirstNotOf p xs (option_map (λ i. record { 0 = i }) (cond (ltb (place xs) (length xs)) (Some (place xs)) None))
+  first_of xs = go (ltb (place xs) (length xs)) refl
+    where
+      go : (b : Bool) → ltb (place xs) (length xs) ≡ b → FirstNotOf p xs (option_map (λ i. record { 0 = i }) (cond b (Some (place xs)) None))
+      go true e = fails_at xs (ltb-true (place xs) (length xs) e)
+      go false e = pass_all xs (ltb-false (place xs) (length xs) e)
 
--- and the fact over formulas that it stands for
-nth_facts : (t : FormulaNumber → Formula) (fs : List (FactView FormulaNumber)) (i : ℕ) (v : FactView FormulaNumber) → slice_get fs i ≡ Some v → slice_get (facts_map t fs) i ≡ Some (fact_map t v)
-nth_facts t [] i v e = let z : ◌≡◌ {A = ℕ} 0 1 = cc in absurd (omega arith)
-nth_facts t (w ∷ fs) zero v e = let s : w ≡ v = cc in ap (λ u. Some (fact_map t u)) s
-nth_facts t (w ∷ fs) (suc i) v e = nth_facts t fs i v e
-
-pub length_facts : (t : FormulaNumber → Formula) (fs : List (FactView FormulaNumber)) → length (facts_map t fs) ≡ length (map stored fs)
+-- as many facts
+length_facts : (t : FormulaNumber → Formula) (fs : List (FactView FormulaNumber)) → length (map stored fs) ≡ length (facts_map t fs)
 length_facts t [] = refl
 length_facts t (f ∷ fs) = ap suc (length_facts t fs)
 
-module _ (t : FormulaNumber → Formula) (p : FactView Formula → Bool) (fs : List (FactView FormulaNumber)) (i : ℕ) (v : FactView FormulaNumber) (r : Bool)
-    (there : slice_get fs i ≡ Some v) (is : r ≡ p (fact_map t v)) (before : AllByRecursion (λ f. T (p f)) (take i (facts_map t fs))) where
-  -- the fact at i passes
-  pub passes : r ≡ true → AllByRecursion (λ f. T (p f)) (take (i + 1) (facts_map t fs))
-  passes e =
-      rw add-one
-      (all_more (λ f. T (p f)) (facts_map t fs) i (fact_map t v) (nth_facts t fs i v there) (subst (λ (b : Bool). T b) (sym e ∙ is) tt) before)
+-- the place that a search finds, as the answer tells it
+abbrev pub found : {X : Type 0} → (X → Bool) → List X → Option ℕ
+found p xs = cond (ltb (place p xs) (length xs)) (Some (place p xs)) None
 
-  -- the fact at i fails
-  pub fails : r ≡ false → FirstNot p (facts_map t fs) i
-  fails e = first_at p (facts_map t fs) i (fact_map t v) (nth_facts t fs i v there) (subst (λ (b : Bool). T (not b)) (sym e ∙ is) tt) before
+-- a place as the position of a fact
+abbrev pub position : ℕ → FactPosition
+position i = record { 0 = i }
+
+module _ (t : FormulaNumber → Formula) (seen : Fact → Bool) (p : FactView Formula → Bool) (same : (v : FactView FormulaNumber) → seen (stored v) ≡ p (fact_map t v)) where
+  -- the same place among stored facts
+  same_place : (fs : List (FactView FormulaNumber)) → place seen (map stored fs) ≡ place p (facts_map t fs)
+  same_place [] = refl
+  same_place (v ∷ fs) = λ j. cond (not (not (same v j))) (1 + same_place fs j) 0
+
+  -- what is found among stored facts is the first that fails
+  pub first_fact : (fs : List (FactView FormulaNumber)) (xs : List Fact) (r : Option ℕ) → xs ≡ map stored fs → r ≡ found seen xs → FirstNotOf p (facts_map t fs) (option_map position r)
+  first_fact fs xs r e is =
+      subst (λ (o : Option ℕ). FirstNotOf p (facts_map t fs) (option_map position o))
+      (sym (is ∙ ap (found seen) e ∙ (λ j. cond (ltb (same_place fs j) (length_facts t fs j)) (Some (same_place fs j)) None)))
+      (first_of p (facts_map t fs))

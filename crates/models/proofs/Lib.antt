@@ -1,3 +1,5 @@
+pub mod Options
+pub mod Seen
 pub mod Sets
 pub mod Firsts
 pub mod Judgements

@@ -1,3 +1,4 @@
+pub mod Seen
 pub mod Sets
 pub mod Firsts
 pub mod Judgements

@@ -13,6 +13,7 @@ use sequents::sequent::Sequent;
 use sketches::read::read_model;
 
 // Whether the file describes a model that the pile admits and in which the sequent fails where the file places its labels.
+// Pile and number of principals come apart: a setting of both belongs to `rules`, which the model side does not know.
 pub fn examine_model<K: Pack>(
     file: File,
     table: &FormulaTable,
@@ -22,8 +23,6 @@ pub fn examine_model<K: Pack>(
 ) -> Result<(), Refusal>
     ensures { Examined (K.conditions pile.now) principals (sequent_of (nodes_of table.now) sequent.now) (bytes_of file.entry) result }
 {
-    match read_model(file, sequent.labels, principals) {
-        Err(refusal) => Err(refusal),
-        Ok(model) => judge_model(&model, table, sequent, pile),
-    }
+    let model = read_model(file, sequent.labels, principals)?;
+    judge_model(&model, table, sequent, pile)
 }

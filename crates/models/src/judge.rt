@@ -11,8 +11,7 @@ ghost use Rattle.judging.specs.Tests.{Tells};
 ghost use Rattle.models.specs.Firsts.{FirstNotOf};
 ghost use Rattle.models.specs.Judgements.{Judgement};
 
-use crate::falsify::first_not_falsifying;
-use crate::truths::Truths;
+use crate::falsify::Valuation;
 use judging::rules::{first_open_row, keeps_rules};
 use logic::table::FormulaTable;
 use piles::pack::Pack;
@@ -36,11 +35,11 @@ fn failing_condition<K: Pack>(model: &GivenModel, pile: &K) -> Option<ConditionP
 }
 
 // The position of the first fact of the sequent that does not falsify.
+// Table and sequent stay two parameters, since a ledger has one table for all its sequents, and a struct would be made at each call.
 fn failing_fact(model: &GivenModel, table: &FormulaTable, sequent: &Sequent) -> Option<FactPosition>
     ensures { Inside model.now → FirstNotOf (falsifies (model_of model.now.rows) (standing_of model.now.places)) (sequent_of (nodes_of table.now) sequent.now).facts result }
 {
-    let truths = Truths::of(&model.rows, table);
-    first_not_falsifying(model, &truths, sequent.facts.facts())
+    Valuation::of(model, table).first_not_falsifying(sequent.facts.facts())
 }
 
 // Whether the model keeps the rules, meets the pile's conditions and makes every fact of the sequent falsify; the first cause where not.
@@ -61,8 +60,8 @@ pub fn judge_model<K: Pack>(
     if let Some(place) = failing_condition(model, pile) {
         return Err(Refusal::ConditionFails(place));
     }
-    match failing_fact(model, table, sequent) {
-        Some(position) => Err(Refusal::DoesNotFalsify(position)),
-        None => Ok(()),
+    if let Some(position) = failing_fact(model, table, sequent) {
+        return Err(Refusal::DoesNotFalsify(position));
     }
+    Ok(())
 }

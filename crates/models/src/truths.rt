@@ -13,7 +13,7 @@ use records::numbers::FormulaNumber;
 use rows::masks::{WorldSet, set_at};
 use rows::rows::Rows;
 
-// The worlds where each formula holds, by number.
+// The worlds where each formula holds, by number: a fixed array, with room for each formula of a table, and no heap.
 #[derive(Drop)]
 pub struct Truths {
     sets: [WorldSet; MAX_FORMULAS],
@@ -28,10 +28,9 @@ fn next_set(
 ) -> WorldSet
     ensures { TrueBelow (model_of rows.now) (nodes_of table.now) formula.0 sets.now → Truth (model_of rows.now) result (tree (nodes_of table.now) formula) }
 {
-    match table.node(formula) {
-        Some(node) => node_set(rows, node, sets),
-        None => WorldSet(0),
-    }
+    table
+        .node(formula)
+        .map_or(WorldSet(0), |node| node_set(rows, node, sets))
 }
 
 impl Truths {
@@ -40,9 +39,9 @@ impl Truths {
         ensures { TrueSets (model_of rows.now) (nodes_of table.now) result.sets }
     {
         let mut sets = [WorldSet(0); MAX_FORMULAS];
+        // by number, since each set is found from those before it
         for i in 0..table.len() {
-            let set = next_set(rows, table, FormulaNumber(i as u16), &sets);
-            sets[i] = set;
+            sets[i] = next_set(rows, table, FormulaNumber(i as u16), &sets);
         }
         Truths { sets }
     }

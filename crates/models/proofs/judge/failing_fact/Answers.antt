@@ -1,15 +1,25 @@
-use Rattle.std.proofs.Common.{length, ap, ◌∙◌, arith}
-use Rattle.std.proofs.lemmas.List.{length-take-le}
+use Rattle.std.proofs.Common.{subst}
+use Rattle.logic.specs.declared.table.FormulaTable.{FormulaTable}
+use Rattle.logic.specs.Facts.{falsifies, facts_map}
+use Rattle.logic.specs.Formulas.{tree}
 use Rattle.logic.specs.Tables.{nodes_of}
+use Rattle.rows.specs.PlacesOf.{standing_of}
+use Rattle.rows.specs.RowsOf.{model_of}
+use Rattle.sketches.specs.declared.read.GivenModel.{GivenModel}
+use Rattle.sketches.specs.Answers.{Inside}
+use Rattle.models.specs.Firsts.{FirstNotOf}
 use Rattle.sequents.specs.Sequents.{facts_of}
-use Rattle.sequents.specs.Used.{used}
-use Rattle.sequents.proofs.Views.{restored}
+use Rattle.sequents.proofs.Few.{handed_few}
 use Rattle.models.proofs.judge.failing_fact.Goals as goal
 
 pub first_not_falsifying-requires : goal.first_not_falsifying-requires
-first_not_falsifying-requires c =
-    let list = c.args.sequent.now.facts in
-    omega (arith, ap length (c.facts.ensures ∙ restored (used list.rows) list.proper), length-take-le list.rows.len list.rows.facts (omega (arith, list.room, list.whole)), list.room)
+first_not_falsifying-requires c = handed_few c.args.sequent.now.facts _ c.facts.ensures
 
 pub returns : goal.returns
-returns c within = c.first_not_falsifying.ensures (nodes_of c.args.table.now) (facts_of c.args.sequent.now.facts) c.facts.ensures c.of-truths.ensures within
+returns c =
+    let v = c.of.result in
+    let fs = facts_of c.args.sequent.now.facts in
+    let r = c.first_not_falsifying.result in
+    subst (λ (g : GivenModel). Inside g → FirstNotOf (falsifies (model_of g.rows) (standing_of g.places)) (facts_map (tree (nodes_of c.args.table.now)) fs) r) c.of.ensures.model
+    (subst (λ (t : FormulaTable). Inside v.model.now → FirstNotOf (falsifies (model_of v.model.now.rows) (standing_of v.model.now.places)) (facts_map (tree (nodes_of t)) fs) r) c.of.ensures.table
+    (c.first_not_falsifying.ensures fs c.facts.ensures))

@@ -16,7 +16,7 @@ returns-in-Some-failing_fact g c within =
     judged_fact _ _ _ _ _ c.is_regular.result c.is_regular.ensures c.in-Some-failing_fact.position c.if-not-is_regular.false c.in_default.ensures c.in_default-failing_condition.ensures
     (c.in-Some-failing_fact.ensures within)
 
-pub returns-in-None : goal.returns-in-None
-returns-in-None g c within =
+pub returns : goal.returns
+returns g c within =
     judged_all _ _ _ _ _ c.is_regular.result c.is_regular.ensures c.if-not-is_regular.false c.in_default.ensures c.in_default-failing_condition.ensures
-    (c.in-None.ensures within) (λ x _. within x)
+    (c.in_default-failing_fact.ensures within) (λ x _. within x)

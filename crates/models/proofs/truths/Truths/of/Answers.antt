@@ -9,8 +9,8 @@ loop-i-init c = so_far_none (model_of c.args.rows.now) (nodes_of c.args.table.no
 
 pub loop-i-preserved : goal.loop-i-preserved
 loop-i-preserved c =
-    so_far_more (model_of c.args.rows.now) (nodes_of c.args.table.now) c.loop-i.i c.loop-i.sets c.next_set-set.result
-    (omega arith) c.loop-i.invariant (c.next_set-set.ensures c.loop-i.invariant.below)
+    so_far_more (model_of c.args.rows.now) (nodes_of c.args.table.now) c.loop-i.i c.loop-i.sets c.next_set.result
+    (omega arith) c.loop-i.invariant (c.next_set.ensures c.loop-i.invariant.below)
 
 pub returns : goal.returns
 returns c = so_far_all (model_of c.args.rows.now) (nodes_of c.args.table.now) c.loop-i.i c.loop-i.sets (omega arith) c.loop-i.invariant
