@@ -1,5 +1,5 @@
 -- The step that a record asks for. Assumes nothing.
-use Rattle.std.specs.Prelude.{ℕ, ◌+◌, Bool, cond, List, length, Some, None, Ok, Err, Option, Result, ◌==◌, nat_lt}
+use Rattle.std.specs.Prelude.{◌≡◌, ℕ, ◌+◌, Bool, cond, List, length, Some, None, Ok, Err, Option, Result, ◌==◌, nat_lt}
 use Rattle.records.specs.Bytes.{word}
 use Rattle.records.specs.Chains.{Record}
 use Rattle.records.specs.Kinds.{decoded}
@@ -88,3 +88,13 @@ step_of layouts P n r at =
     (cond (r.kind == 45) (onward (decoded 4 two_orders_at r.body at) λ c. Ok (Transitive c))
     (cond (r.kind == 46) (onward (decoded 6 order_arrow_order_at r.body at) λ c. Ok (Monotone c))
     (pack_step P n r.kind r.body at (layouts r.kind)))))))))))))))))
+
+-- a record of this kind is read as `step` says, in a branch with n labels, from what a body of this size holds
+abbrev pub IsRead : {X : Type 0} → ℕ → ℕ → (List ℕ → X) → (ℕ → RecordNumber → X → Result Step Refusal) → Type 0
+IsRead number size content step =
+    (layouts : ℕ → Option Layout) (P n : ℕ) (body : List ℕ) (at : RecordNumber)
+    → step_of layouts P n (record { kind = number; body = body }) at ≡ onward (decoded size content body at) (step n at)
+
+-- a record of this kind is read as a step of one kind, whatever the branch
+abbrev pub IsStep : {X : Type 0} → ℕ → ℕ → (List ℕ → X) → (X → Step) → Type 0
+IsStep number size content step = IsRead number size content (λ n at c. Ok (step c))

@@ -5,45 +5,52 @@ ghost use Rattle.logic.specs.Tables.{nodes_of};
 ghost use Rattle.rules.specs.Applying.{applied};
 ghost use Rattle.rules.specs.Scenes.{scene_of};
 
+use crate::branch::Branch;
 use crate::connectives::*;
 use crate::links::*;
 use crate::modal::*;
 use crate::outcome::Outcome;
 use crate::packs::ask_pack;
+use crate::setting::Setting;
 use crate::step::Step;
 use logic::fact::Fact;
-use logic::table::FormulaTable;
 use piles::pack::Pack;
 use records::numbers::FormulaNumber;
 use stack::stack::Stack;
 
-// What a step does in a branch whose facts lie on the trail; none where they are not as it needs them.
-pub fn apply_step<K: Pack>(
-    pile: &K,
-    principals: u16,
-    table: &FormulaTable,
-    trail: &Stack<Fact>,
-    labels: u16,
-    step: Step,
-) -> Option<Outcome<FormulaNumber>>
-    ensures { result ≡ applied (scene_of (nodes_of table.now) (items trail.now) labels (K.readings pile.now) principals) step }
-{
-    match step {
-        Step::AtomsClose(at) => close_atoms(table, trail, at),
-        Step::FalsityCloses(l) => close_falsity(table, trail, l),
-        Step::AndLeft(l) => left_and(table, trail, l),
-        Step::AndRight(r) => right_and(table, trail, r),
-        Step::OrLeft(l) => left_or(table, trail, l),
-        Step::OrRight(r) => right_or(table, trail, r),
-        Step::ImpliesLeft(at) => left_implies(table, trail, at),
-        Step::ImpliesRight(r) => right_implies(table, trail, labels, r),
-        Step::ModalLeft(at) => left_modal(table, trail, at),
-        Step::ModalRight(r) => right_modal(table, trail, labels, r),
-        Step::PermittedLeft(l) => left_permitted(table, trail, labels, l),
-        Step::PermittedRight(at) => right_permitted(table, trail, at),
-        Step::Reflexive(x) => Some(order_itself(x)),
-        Step::Transitive(at) => join_orders(trail, at),
-        Step::Monotone(at) => shift_arrow(trail, at),
-        Step::OfPack(step) => ask_pack(pile, principals, trail, labels, step),
+impl<K: Pack> Setting<'_, K> {
+    // What a step does in a branch whose facts lie on the trail; none where they are not as it needs them.
+    pub fn apply(
+        &self,
+        trail: &Stack<Fact>,
+        labels: u16,
+        step: Step,
+    ) -> Option<Outcome<FormulaNumber>>
+        ensures { result ≡ applied (scene_of (nodes_of self.now.table.now) (items trail.now) labels (K.readings self.now.pile.now) self.now.principals) step }
+    {
+        let branch = &Branch {
+            table: self.table,
+            trail,
+            labels,
+        };
+        // a match, not functions in a table: the steps are a closed enum, each with content of its own type
+        match step {
+            Step::AtomsClose(at) => close_atoms(branch, at),
+            Step::FalsityCloses(l) => close_falsity(branch, l),
+            Step::AndLeft(l) => left_and(branch, l),
+            Step::AndRight(r) => right_and(branch, r),
+            Step::OrLeft(l) => left_or(branch, l),
+            Step::OrRight(r) => right_or(branch, r),
+            Step::ImpliesLeft(at) => left_implies(branch, at),
+            Step::ImpliesRight(r) => right_implies(branch, r),
+            Step::ModalLeft(at) => left_modal(branch, at),
+            Step::ModalRight(r) => right_modal(branch, r),
+            Step::PermittedLeft(l) => left_permitted(branch, l),
+            Step::PermittedRight(at) => right_permitted(branch, at),
+            Step::Reflexive(x) => Some(order_itself(x)),
+            Step::Transitive(at) => join_orders(branch, at),
+            Step::Monotone(at) => shift_arrow(branch, at),
+            Step::OfPack(step) => ask_pack(self, branch, step),
+        }
     }
 }

@@ -1,19 +1,17 @@
 // The step that a record asks for.
 ghost use Rattle.std.specs.Prelude.{◌≡◌, ◌+◌, ◌≤◌, length, Some};
 ghost use Rattle.records.specs.Chains.{record_of};
-ghost use Rattle.rules.specs.Decoding.{width, positions_width, positions_at, number_at, label_of, principal_of, layout_size, pack_step, label_below, step_of};
+ghost use Rattle.rules.specs.Decoding.{width, positions_width, positions_at, number_at, pack_step, label_below, step_of};
 
 use crate::contents::read_position;
-use crate::kinds::connectives::*;
-use crate::kinds::links::*;
-use crate::kinds::modal::*;
+use crate::kinds::*;
+use crate::setting::Setting;
 use crate::step::{PackStep, Positions, Step};
 use piles::pack::Pack;
 use piles::terms::{Arity, Layout};
 use records::bytes::word_at;
-use records::kind::decode;
 use records::numbers::{Label, Principal, RecordNumber};
-use records::record::RawRecord;
+use records::record::Numbered;
 use records::refusal::Refusal;
 
 // The bytes of a number, if the body has it.
@@ -68,51 +66,29 @@ fn read_number(
     }
 }
 
-// A number as a label.
-fn as_label(number: Option<u16>) -> Option<Label>
-    ensures { result ≡ label_of number }
-{
-    match number {
-        None => None,
-        Some(x) => Some(Label(x)),
-    }
-}
-
-// A number as a principal.
-fn as_principal(number: Option<u16>) -> Option<Principal>
-    ensures { result ≡ principal_of number }
-{
-    match number {
-        None => None,
-        Some(a) => Some(Principal(a)),
-    }
-}
-
 // A pack's step, by the layout of its body.
 fn decode_pack_step(
     layout: Layout,
     principals: u16,
     labels: u16,
-    raw: RawRecord,
-    at: RecordNumber,
+    numbered: Numbered,
 ) -> Result<Step, Refusal>
-    ensures { result ≡ pack_step principals labels raw.entry.kind raw.entry.body.now at (Some layout) }
+    ensures { result ≡ pack_step principals labels numbered.entry.raw.kind numbered.entry.raw.body.now numbered.entry.at (Some layout) }
 {
-    let body = raw.body;
+    let at = numbered.at;
+    let body = numbered.raw.body;
     let first = arity_width(layout.positions);
-    let second = number_width(layout.label);
-    let third = number_width(layout.principal);
-    if body.len() != first + second + third {
+    let second = first + number_width(layout.label);
+    if body.len() != second + number_width(layout.principal) {
         return Err(Refusal::Frame(at));
     }
-    let positions = read_positions(layout.positions, body);
     let label = read_number(body, first, layout.label, labels, at)?;
-    let principal = read_number(body, first + second, layout.principal, principals, at)?;
+    let principal = read_number(body, second, layout.principal, principals, at)?;
     Ok(Step::OfPack(PackStep {
-        kind: raw.kind,
-        positions,
-        label: as_label(label),
-        principal: as_principal(principal),
+        kind: numbered.raw.kind,
+        positions: read_positions(layout.positions, body),
+        label: label.map(Label),
+        principal: principal.map(Principal),
     }))
 }
 
@@ -127,36 +103,33 @@ fn reflexive_step(x: Label, labels: u16, at: RecordNumber) -> Result<Step, Refus
     }
 }
 
-// The step that record `at` asks for, in a branch with so many labels.
-pub fn decode_step<K: Pack>(
-    pile: &K,
-    principals: u16,
-    labels: u16,
-    raw: RawRecord,
-    at: RecordNumber,
-) -> Result<Step, Refusal>
-    ensures { result ≡ step_of (K.layouts pile.now) principals labels (record_of raw.entry) at }
-{
-    let body = raw.body;
-    match raw.kind {
-        32 => Ok(Step::AtomsClose(decode::<AtomsClose>(body, at)?)),
-        33 => Ok(Step::FalsityCloses(decode::<FalsityCloses>(body, at)?)),
-        34 => Ok(Step::AndLeft(decode::<AndLeft>(body, at)?)),
-        35 => Ok(Step::AndRight(decode::<AndRight>(body, at)?)),
-        36 => Ok(Step::OrLeft(decode::<OrLeft>(body, at)?)),
-        37 => Ok(Step::OrRight(decode::<OrRight>(body, at)?)),
-        38 => Ok(Step::ImpliesLeft(decode::<ImpliesLeft>(body, at)?)),
-        39 => Ok(Step::ImpliesRight(decode::<ImpliesRight>(body, at)?)),
-        40 => Ok(Step::ModalLeft(decode::<ModalLeft>(body, at)?)),
-        41 => Ok(Step::ModalRight(decode::<ModalRight>(body, at)?)),
-        42 => Ok(Step::PermittedLeft(decode::<PermittedLeft>(body, at)?)),
-        43 => Ok(Step::PermittedRight(decode::<PermittedRight>(body, at)?)),
-        44 => reflexive_step(decode::<Reflexive>(body, at)?, labels, at),
-        45 => Ok(Step::Transitive(decode::<Transitive>(body, at)?)),
-        46 => Ok(Step::Monotone(decode::<Monotone>(body, at)?)),
-        kind => match pile.body(kind) {
-            None => Err(Refusal::Kind(at)),
-            Some(layout) => decode_pack_step(layout, principals, labels, raw, at),
-        },
+impl<K: Pack> Setting<'_, K> {
+    // The step that a record asks for, in a branch with so many labels.
+    pub fn decode(&self, labels: u16, numbered: Numbered) -> Result<Step, Refusal>
+        ensures { result ≡ step_of (K.layouts self.now.pile.now) self.now.principals labels (record_of numbered.entry.raw) numbered.entry.at }
+    {
+        // The number is made into a step right here: an enum of kinds between would be this list once more, and a trait's
+        // constant can't be a pattern.
+        match numbered.raw.kind {
+            32 => Ok(Step::AtomsClose(numbered.decode::<AtomsClose>()?)),
+            33 => Ok(Step::FalsityCloses(numbered.decode::<FalsityCloses>()?)),
+            34 => Ok(Step::AndLeft(numbered.decode::<AndLeft>()?)),
+            35 => Ok(Step::AndRight(numbered.decode::<AndRight>()?)),
+            36 => Ok(Step::OrLeft(numbered.decode::<OrLeft>()?)),
+            37 => Ok(Step::OrRight(numbered.decode::<OrRight>()?)),
+            38 => Ok(Step::ImpliesLeft(numbered.decode::<ImpliesLeft>()?)),
+            39 => Ok(Step::ImpliesRight(numbered.decode::<ImpliesRight>()?)),
+            40 => Ok(Step::ModalLeft(numbered.decode::<ModalLeft>()?)),
+            41 => Ok(Step::ModalRight(numbered.decode::<ModalRight>()?)),
+            42 => Ok(Step::PermittedLeft(numbered.decode::<PermittedLeft>()?)),
+            43 => Ok(Step::PermittedRight(numbered.decode::<PermittedRight>()?)),
+            44 => reflexive_step(numbered.decode::<Reflexive>()?, labels, numbered.at),
+            45 => Ok(Step::Transitive(numbered.decode::<Transitive>()?)),
+            46 => Ok(Step::Monotone(numbered.decode::<Monotone>()?)),
+            kind => {
+                let layout = self.pile.body(kind).ok_or(Refusal::Kind(numbered.at))?;
+                decode_pack_step(layout, self.principals, labels, numbered)
+            }
+        }
     }
 }

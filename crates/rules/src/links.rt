@@ -4,13 +4,12 @@ ghost use Rattle.stack.specs.Stacks.{items};
 ghost use Rattle.rules.specs.Applying.{reflexive, transitive, along, against, shifted, monotone};
 ghost use Rattle.rules.specs.Scenes.{facts_at};
 
+use crate::branch::Branch;
 use crate::contents::{OrderArrowOrder, TwoOrders};
 use crate::looks::*;
 use crate::outcome::{ArrowParts, Few, Growth, Outcome};
-use logic::fact::Fact;
 use logic::terms::{FactView, Link};
 use records::numbers::{FormulaNumber, Label};
-use stack::stack::Stack;
 
 // 44
 pub(crate) fn order_itself(x: Label) -> Outcome<FormulaNumber>
@@ -20,16 +19,13 @@ pub(crate) fn order_itself(x: Label) -> Outcome<FormulaNumber>
 }
 
 // 45
-pub(crate) fn join_orders(trail: &Stack<Fact>, at: TwoOrders) -> Option<Outcome<FormulaNumber>>
-    ensures { result ≡ transitive (facts_at (items trail.now)) at }
+pub(crate) fn join_orders(branch: &Branch, at: TwoOrders) -> Option<Outcome<FormulaNumber>>
+    ensures { result ≡ transitive (facts_at (items branch.now.trail.now)) at }
 {
-    let (x, y) = order_at(trail, at.first)?;
-    let (lower, z) = order_at(trail, at.second)?;
-    if is_label(lower, y) {
-        Some(Outcome::Goes(Growth::of(Few::One(FactView::Linked(Link::Order(x, z))))))
-    } else {
-        None
-    }
+    let (x, y) = branch.order(at.first)?;
+    let (lower, z) = branch.order(at.second)?;
+    let order = FactView::Linked(Link::Order(x, z));
+    (lower == y).then_some(Outcome::Goes(Growth::of(Few::One(order))))
 }
 
 // The arrow between the outer labels of two orders, for says, controls and ratified.
@@ -38,11 +34,8 @@ fn along_orders(a: (Label, Label), arrow: ArrowParts, b: (Label, Label)) -> Opti
 {
     let (x, y) = a;
     let (z, w) = b;
-    if is_label(arrow.from, y) && is_label(z, arrow.to) {
-        Some(Link::Arrow(arrow.modality, arrow.principal, x, w))
-    } else {
-        None
-    }
+    let moved = Link::Arrow(arrow.modality, arrow.principal, x, w);
+    (arrow.from == y && z == arrow.to).then_some(moved)
 }
 
 // The arrow between the outer labels of two orders, for permitted.
@@ -51,11 +44,8 @@ fn against_orders(a: (Label, Label), arrow: ArrowParts, b: (Label, Label)) -> Op
 {
     let (x, y) = a;
     let (z, w) = b;
-    if is_label(arrow.to, y) && is_label(z, arrow.from) {
-        Some(Link::Arrow(arrow.modality, arrow.principal, w, x))
-    } else {
-        None
-    }
+    let moved = Link::Arrow(arrow.modality, arrow.principal, w, x);
+    (arrow.to == y && z == arrow.from).then_some(moved)
 }
 
 // The arrow, moved out along two orders.
@@ -70,15 +60,12 @@ fn shift(a: (Label, Label), arrow: ArrowParts, b: (Label, Label)) -> Option<Link
 }
 
 // 46
-pub(crate) fn shift_arrow(
-    trail: &Stack<Fact>,
-    at: OrderArrowOrder,
-) -> Option<Outcome<FormulaNumber>>
-    ensures { result ≡ monotone (facts_at (items trail.now)) at }
+pub(crate) fn shift_arrow(branch: &Branch, at: OrderArrowOrder) -> Option<Outcome<FormulaNumber>>
+    ensures { result ≡ monotone (facts_at (items branch.now.trail.now)) at }
 {
-    let first = order_at(trail, at.first)?;
-    let arrow = arrow_at(trail, at.arrow)?;
-    let second = order_at(trail, at.second)?;
+    let first = branch.order(at.first)?;
+    let arrow = branch.arrow(at.arrow)?;
+    let second = branch.order(at.second)?;
     let link = shift(first, arrow, second)?;
     Some(Outcome::Goes(Growth::of(Few::One(FactView::Linked(link)))))
 }

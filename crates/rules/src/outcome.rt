@@ -6,7 +6,7 @@ use logic::terms::{FactView, Modality};
 use records::numbers::{Label, Principal};
 
 // One, two or three facts.
-#[derive(Clone, Copy)]
+#[derive(Clone, Copy, PartialEq, Eq, Debug)]
 pub enum Few<F> {
     One(FactView<F>),
     Two(FactView<F>, FactView<F>),
@@ -14,14 +14,14 @@ pub enum Few<F> {
 }
 
 // What a premise adds, and whether it opens a label: the label count, used as a label.
-#[derive(Clone, Copy)]
+#[derive(Clone, Copy, PartialEq, Eq, Debug)]
 pub struct Growth<F> {
     pub facts: Few<F>,
     pub opens: bool,
 }
 
 // The branch closes, goes on, or forks: the first premise goes on, the second waits.
-#[derive(Clone, Copy)]
+#[derive(Clone, Copy, PartialEq, Eq, Debug)]
 pub enum Outcome<F> {
     Closes,
     Goes(Growth<F>),
@@ -48,7 +48,7 @@ impl<F: Copy> Growth<F> {
 }
 
 // An arrow by its parts.
-#[derive(Clone, Copy)]
+#[derive(Clone, Copy, PartialEq, Eq, Debug)]
 pub struct ArrowParts {
     pub modality: Modality,
     pub principal: Principal,
@@ -57,7 +57,7 @@ pub struct ArrowParts {
 }
 
 // A formula under a modality.
-#[derive(Clone, Copy)]
+#[derive(Clone, Copy, PartialEq, Eq, Debug)]
 pub struct Boxed<F> {
     pub modality: Modality,
     pub principal: Principal,

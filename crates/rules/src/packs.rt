@@ -6,15 +6,14 @@ ghost use Rattle.rules.specs.Outcomes.{uses, pack_adds};
 ghost use Rattle.rules.specs.PackSteps.{hidden, named_at, operands_of};
 ghost use Rattle.rules.specs.Scenes.{facts_at};
 
-use crate::looks::fact_at;
+use crate::branch::Branch;
 use crate::outcome::{Few, Growth, Outcome};
+use crate::setting::Setting;
 use crate::step::{PackStep, Positions};
-use logic::fact::Fact;
 use logic::terms::{FactView, Link};
 use piles::pack::Pack;
 use piles::terms::{Named, Operands, Premise, Reading};
 use records::numbers::FormulaNumber;
-use stack::stack::Stack;
 
 // A fact with its formula hidden.
 fn hide(fact: FactView<FormulaNumber>) -> FactView<()>
@@ -28,23 +27,14 @@ fn hide(fact: FactView<FormulaNumber>) -> FactView<()>
 }
 
 // The facts at the positions, if they are all there.
-fn named(trail: &Stack<Fact>, positions: Positions) -> Option<Named>
-    ensures { result ≡ named_at (facts_at (items trail.now)) positions }
+fn named(branch: &Branch, positions: Positions) -> Option<Named>
+    ensures { result ≡ named_at (facts_at (items branch.now.trail.now)) positions }
 {
-    match positions {
-        Positions::Zero => Some(Named::Nothing),
-        Positions::One(i) => match fact_at(trail, i) {
-            None => None,
-            Some(f) => Some(Named::Single(hide(f))),
-        },
-        Positions::Two(i, j) => match fact_at(trail, i) {
-            None => None,
-            Some(f) => match fact_at(trail, j) {
-                None => None,
-                Some(g) => Some(Named::Pair(hide(f), hide(g))),
-            },
-        },
-    }
+    Some(match positions {
+        Positions::Zero => Named::Nothing,
+        Positions::One(i) => Named::Single(hide(branch.fact(i)?)),
+        Positions::Two(i, j) => Named::Pair(hide(branch.fact(i)?), hide(branch.fact(j)?)),
+    })
 }
 
 // Whether a link uses the label n.
@@ -52,8 +42,7 @@ fn link_uses(n: u16, link: Link) -> bool
     ensures { result ≡ uses n link }
 {
     match link {
-        Link::Order(x, y) => x.0 == n || y.0 == n,
-        Link::Arrow(_, _, x, y) => x.0 == n || y.0 == n,
+        Link::Order(x, y) | Link::Arrow(_, _, x, y) => x.0 == n || y.0 == n,
     }
 }
 
@@ -78,8 +67,7 @@ fn outcome_of(labels: u16, reading: Reading) -> Option<Outcome<FormulaNumber>>
     ensures { result ≡ of_reading labels reading }
 {
     match reading {
-        Reading::Unknown => None,
-        Reading::NoInstance => None,
+        Reading::Unknown | Reading::NoInstance => None,
         Reading::Goes(q) => Some(Outcome::Goes(grow(labels, q))),
         Reading::Splits(q, r) => Some(Outcome::Forks(grow(labels, q), grow(labels, r))),
     }
@@ -87,20 +75,22 @@ fn outcome_of(labels: u16, reading: Reading) -> Option<Outcome<FormulaNumber>>
 
 // A step of a pack of the pile.
 pub(crate) fn ask_pack<K: Pack>(
-    pile: &K,
-    principals: u16,
-    trail: &Stack<Fact>,
-    labels: u16,
+    setting: &Setting<K>,
+    branch: &Branch,
     step: PackStep,
 ) -> Option<Outcome<FormulaNumber>>
-    ensures { result ≡ of_pack (facts_at (items trail.now)) (K.readings pile.now) principals labels step }
+    ensures { result ≡ of_pack (facts_at (items branch.now.trail.now)) (K.readings setting.now.pile.now) setting.now.principals branch.now.labels step }
 {
-    let named = named(trail, step.positions)?;
     let operands = Operands {
-        named,
+        named: named(branch, step.positions)?,
         label: step.label,
         principal: step.principal,
     };
-    let reading = pile.read(step.kind, operands, principals, labels);
-    outcome_of(labels, reading)
+    let labels = branch.labels;
+    outcome_of(
+        labels,
+        setting
+            .pile
+            .read(step.kind, operands, setting.principals, labels),
+    )
 }

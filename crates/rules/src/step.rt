@@ -2,8 +2,8 @@
 use crate::contents::{Closing, LeftArrow, LeftOrder, OrderArrowOrder, RightArrow, TwoOrders};
 use records::numbers::{FactPosition, Label, Principal};
 
-// The positions that a pack's step names.
-#[derive(Clone, Copy)]
+// The positions that a pack's step names; apart from what they name (`Named`), since a position is no fact.
+#[derive(Clone, Copy, PartialEq, Eq, Debug)]
 pub enum Positions {
     Zero,
     One(FactPosition),
@@ -11,7 +11,7 @@ pub enum Positions {
 }
 
 // A step of a pack: its kind, positions, and a label and a principal where its kind has them.
-#[derive(Clone, Copy)]
+#[derive(Clone, Copy, PartialEq, Eq, Debug)]
 pub struct PackStep {
     pub kind: u16,
     pub positions: Positions,
@@ -19,7 +19,7 @@ pub struct PackStep {
     pub principal: Option<Principal>,
 }
 
-#[derive(Clone, Copy)]
+#[derive(Clone, Copy, PartialEq, Eq, Debug)]
 pub enum Step {
     AtomsClose(Closing),
     FalsityCloses(FactPosition),
