@@ -7,6 +7,8 @@ use piles::bare::Bare;
 use piles::pack::Pack;
 use records::file::File;
 use records::numbers::{AtomNumber, FormulaNumber, Label, Principal};
+use records::refusal::Refusal;
+use rules::setting::Setting;
 use stack::blank::Blank;
 use steps::examine::examine_derivation;
 use steps::waiting::Waiting;
@@ -17,12 +19,12 @@ const B: Principal = Principal(1);
 
 // Formula f at label 0 on the left.
 fn left(f: u16) -> Fact {
-    Fact::of(FactView::Left(Label(0), FormulaNumber(f)))
+    Fact::from(FactView::Left(Label(0), FormulaNumber(f)))
 }
 
 // Formula f at label 0 on the right.
 fn right(f: u16) -> Fact {
-    Fact::of(FactView::Right(Label(0), FormulaNumber(f)))
+    Fact::from(FactView::Right(Label(0), FormulaNumber(f)))
 }
 
 // A modality of a principal over formula f, as a node.
@@ -40,26 +42,32 @@ fn table_of(more: &[Node<FormulaNumber>]) -> FormulaTable {
     table
 }
 
-// The refusal's two numbers, or 0 and 0 where the derivation is taken, for a sequent of one label and two principals.
-fn answer<K: Pack>(pile: &K, table: &FormulaTable, facts: &[Fact], bytes: &[u8]) -> (u16, u16) {
-    if let Err(refusal) = File::check(bytes) {
-        return (refusal.number(), refusal.second());
-    }
+// The answer to a derivation of a sequent of one label, over two principals.
+fn examine<K: Pack>(
+    pile: &K,
+    table: &FormulaTable,
+    facts: &[Fact],
+    bytes: &[u8],
+) -> Result<(), Refusal> {
+    let file = File::try_from(bytes)?;
+    let setting = Setting {
+        pile,
+        principals: 2,
+        table,
+    };
     let mut trail = [Fact::blank(); 16];
     let mut waiting = [Waiting::blank(); 2];
-    match examine_derivation(
-        File::new(bytes),
-        table,
-        1,
-        facts,
-        pile,
-        2,
-        &mut trail,
-        &mut waiting,
-    ) {
-        Ok(()) => (0, 0),
-        Err(refusal) => (refusal.number(), refusal.second()),
-    }
+    examine_derivation(file, &setting, 1, facts, &mut trail, &mut waiting)
+}
+
+// The same, with a refusal by its two numbers.
+fn answer<K: Pack>(
+    pile: &K,
+    table: &FormulaTable,
+    facts: &[Fact],
+    bytes: &[u8],
+) -> Result<(), (u16, u16)> {
+    examine(pile, table, facts, bytes).map_err(|refusal| (refusal.number(), refusal.second()))
 }
 
 // p gives p: reflexivity, then the atom closes; without the order it does not.
@@ -68,10 +76,10 @@ fn an_atom_gives_itself(rt: HostRuntime) {
     let table = table_of(&[]);
     let facts = [left(0), right(0)];
     let steps: &[u8] = &[4, 0, 44, 0, 0, 0, 8, 0, 32, 0, 0, 0, 1, 0, 2, 0];
-    assert_eq!(rt; answer(&Bare, &table, &facts, steps), (0, 0));
+    assert_eq!(rt; answer(&Bare, &table, &facts, steps), Ok(()));
     let alone: &[u8] = &[8, 0, 32, 0, 0, 0, 1, 0, 0, 0];
-    assert_eq!(rt; answer(&Bare, &table, &facts, alone), (10, 0));
-    assert_eq!(rt; answer(&Bare, &table, &facts, &[]), (13, 0));
+    assert_eq!(rt; answer(&Bare, &table, &facts, alone), Err((10, 0)));
+    assert_eq!(rt; answer(&Bare, &table, &facts, &[]), Err((13, 0)));
 }
 
 // A ratified p gives A says p, by RS; the bare pack has no such step.
@@ -83,8 +91,8 @@ fn ratified_gives_says(rt: HostRuntime) {
         4, 0, 41, 0, 1, 0, 4, 0, 67, 0, 2, 0, 6, 0, 40, 0, 0, 0, 4, 0, 4, 0, 44, 0, 1, 0, 8, 0, 32,
         0, 5, 0, 3, 0, 6, 0,
     ];
-    assert_eq!(rt; answer(&published(), &table, &facts, steps), (0, 0));
-    assert_eq!(rt; answer(&Bare, &table, &facts, steps), (4, 1));
+    assert_eq!(rt; answer(&published(), &table, &facts, steps), Ok(()));
+    assert_eq!(rt; answer(&Bare, &table, &facts, steps), Err((4, 1)));
 }
 
 // A says p does not give A ratified p by the same steps: the arrow of RS goes from says to ratified.
@@ -93,7 +101,7 @@ fn says_does_not_give_ratified(rt: HostRuntime) {
     let table = table_of(&[modal(Modality::Ratified, A, 0), modal(Modality::Says, A, 0)]);
     let facts = [left(2), right(1)];
     let steps: &[u8] = &[4, 0, 41, 0, 1, 0, 4, 0, 67, 0, 2, 0];
-    assert_eq!(rt; answer(&published(), &table, &facts, steps), (10, 1));
+    assert_eq!(rt; answer(&published(), &table, &facts, steps), Err((10, 1)));
 }
 
 // A says p gives B says A says p, by I-SS.
@@ -105,7 +113,7 @@ fn says_gives_says_of_says(rt: HostRuntime) {
         4, 0, 41, 0, 1, 0, 4, 0, 41, 0, 3, 0, 6, 0, 64, 0, 2, 0, 4, 0, 6, 0, 40, 0, 0, 0, 6, 0, 4,
         0, 44, 0, 2, 0, 8, 0, 32, 0, 7, 0, 5, 0, 8, 0,
     ];
-    assert_eq!(rt; answer(&published(), &table, &facts, steps), (0, 0));
+    assert_eq!(rt; answer(&published(), &table, &facts, steps), Ok(()));
 }
 
 // Admin controls r and Admin says (Bob controls r) give Bob is permitted r: C2P opens a world, del-C branches.
@@ -123,5 +131,5 @@ fn delegated_control_gives_permission(rt: HostRuntime) {
         0, 6, 0, 40, 0, 0, 0, 7, 0, 8, 0, 32, 0, 8, 0, 5, 0, 6, 0, 6, 0, 40, 0, 1, 0, 7, 0, 6, 0,
         40, 0, 9, 0, 8, 0, 8, 0, 32, 0, 10, 0, 5, 0, 6, 0,
     ];
-    assert_eq!(rt; answer(&published(), &table, &facts, steps), (0, 0));
+    assert_eq!(rt; answer(&published(), &table, &facts, steps), Ok(()));
 }

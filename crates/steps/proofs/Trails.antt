@@ -1,7 +1,7 @@
 -- The open branches by the stacks. Assumes nothing.
-use Rattle.std.proofs.Common.{◌≡◌, ℕ, suc, ◌+◌, ◌<◌, ◌≤◌, List, [], ◌∷◌, ◌++◌, map, reverse, length, get_or, take, Some, sym, refl, ap, ◌∙◌, subst, ap₂, arith, length-append}
+use Rattle.std.proofs.Common.{◌≡◌, ℕ, suc, ◌+◌, ◌≤◌, List, [], ◌∷◌, ◌++◌, map, reverse, length, take, Some, refl, ap, ◌∙◌, subst, ap₂, arith, length-append}
 use lib.ListN.{length-map}
-use Rattle.std.proofs.lemmas.List.{take-append-le, length-take-le, take_more}
+use Rattle.std.proofs.lemmas.List.{take-append-le, length-take-le}
 use Rattle.records.specs.declared.numbers.FormulaNumber.{FormulaNumber}
 use Rattle.logic.specs.declared.fact.Fact.{Fact}
 use Rattle.logic.specs.declared.terms.FactView.{FactView}
@@ -11,7 +11,7 @@ use Rattle.rules.specs.declared.outcome.Few.{Few}
 use Rattle.rules.specs.declared.outcome.Few.TheVariants.{One, Two, Three}
 use Rattle.rules.specs.Outcomes.{listed}
 use Rattle.steps.specs.declared.waiting.Waiting.{Waiting}
-use Rattle.steps.specs.Memory.{waitings, branches, Kept, Sound}
+use Rattle.steps.specs.Memory.{waitings, branches, Kept}
 use Rattle.steps.specs.Waits.{laid_by, laid_one, laid, added_of}
 
 -- a stored fact is laid
@@ -57,9 +57,6 @@ module _ (room : ℕ) (t : List Fact) (w : Waiting) (ws rest : List Waiting) (en
   pub taken_up : (u : List Fact) → u ≡ take w.trail t ++ laid w.facts → branches u rest (Some w.labels) ≡ waitings t (reverse ws)
   taken_up u e = rw (e, ends, waitings_grown room (take w.trail t) (laid w.facts) (reverse rest) front_kept)
 
-  pub taken_up_sound : (u : List Fact) → u ≡ take w.trail t ++ laid w.facts → Sound room u rest (Some w.labels)
-  taken_up_sound u e =
+  pub taken_up_kept : (u : List Fact) → u ≡ take w.trail t ++ laid w.facts → Kept room (length u) (reverse rest)
+  taken_up_kept u e =
       kept_more room w.trail (length u) (reverse rest) (omega (arith, ap length e, length-append (take w.trail t) (laid w.facts), front_length)) split.2
-
-pub laid_more : {X : Type 0} (xs : List X) (i : ℕ) (d : X) (t u : List X) → t ≡ take i xs → u ≡ t ++ (get_or xs i d ∷ []) → i < length xs → u ≡ take (i + 1) xs
-laid_more xs i d t u is grew h = grew ∙ ap (λ ys. ys ++ (get_or xs i d ∷ [])) is ∙ sym (take_more xs i d h)

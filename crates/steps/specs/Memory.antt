@@ -1,17 +1,15 @@
 -- The open branches by the two stacks. Assumes nothing.
-use Rattle.std.specs.Prelude.{◌≡◌, ℕ, ◌+◌, ◌≤◌, List, [], ◌∷◌, ◌++◌, reverse, length, take, Some, None, Ok, Err, Option, Result}
+use Rattle.std.specs.Prelude.{ℕ, ◌+◌, ◌≤◌, List, [], ◌∷◌, ◌++◌, reverse, length, take, Some, None, Option}
+use Rattle.std.specs.Coded.{Unit-prop, le_prop}
 use Rattle.records.specs.declared.numbers.FormulaNumber.{FormulaNumber}
-use Rattle.records.specs.declared.numbers.RecordNumber.{RecordNumber}
-use Rattle.records.specs.declared.refusal.Refusal.{Refusal}
 use Rattle.logic.specs.declared.fact.Fact.{Fact}
 use Rattle.logic.specs.declared.terms.Node.{Node}
 use Rattle.logic.specs.Stored.{stored, view_of}
 use Rattle.piles.specs.declared.terms.Layout.{Layout}
 use Rattle.piles.specs.Packs.{Readings}
-use Rattle.rules.specs.declared.outcome.Outcome.{Outcome}
 use Rattle.rules.specs.Scenes.{node_of}
 use Rattle.steps.specs.declared.waiting.Waiting.{Waiting}
-use Rattle.steps.specs.Branches.{Branch, Room, Setting, branch, moved}
+use Rattle.steps.specs.Branches.{Branch, Room, Setting, branch}
 use Rattle.steps.specs.Waits.{laid}
 
 -- the waiting branches, the latest first, by the trail of the branch that is current: each has a front of it, and its own facts
@@ -29,23 +27,14 @@ abbrev pub Kept : ℕ → ℕ → List Waiting → Type 0
 Kept room n [] = Unit {0}
 Kept room n (w ∷ ws) = (w.trail ≤ n) × (w.trail + length (laid w.facts) ≤ room) × Kept room w.trail ws
 
--- the same while a branch is open
-abbrev pub Sound : ℕ → List Fact → List Waiting → Option ℕ → Type 0
-Sound room trail ws None = Unit {0}
-Sound room trail ws (Some n) = Kept room (length trail) (reverse ws)
-
--- the stacks and the answer after a record show what it made of the branches
-abbrev pub Shows : ℕ → Result (List (Branch Fact)) Refusal → List Fact → List Waiting → Result (Option ℕ) Refusal → Type 0
-Shows room o trail ws (Ok c) = (o ≡ Ok (branches trail ws c)) × Sound room trail ws c
-Shows room o trail ws (Err e) = o ≡ Err e
+-- it is known in one way
+pub Kept-prop : (room n : ℕ) (ws : List Waiting) → IsProp (Kept room n ws)
+Kept-prop room n [] = Unit-prop
+Kept-prop room n (w ∷ ws) = hlevel (le_prop, Kept-prop room w.trail ws)
 
 -- how many facts, and how many waiting branches
 abbrev pub rooms : ℕ → ℕ → Room
 rooms m n = record { trail = m; waiting = n }
-
--- what the outcome of record `at` makes of the stacks, from trail and ws to trail' and ws'
-abbrev pub OverStacks : ℕ → ℕ → RecordNumber → Option (Outcome FormulaNumber) → List Fact → ℕ → List Waiting → List Fact → List Waiting → Result (Option ℕ) Refusal → Type 0
-OverStacks m n at o trail labels ws trail' ws' r = Shows m (moved stored (rooms m n) at o (branch trail labels) (waitings trail (reverse ws))) trail' ws' r
 
 -- read from stored facts, with their formulas in a table
 abbrev pub stored_setting : List (Node FormulaNumber) → (ℕ → Option Layout) → Readings → ℕ → ℕ → ℕ → Setting Fact FormulaNumber

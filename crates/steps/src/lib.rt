@@ -2,6 +2,7 @@
 #![tactic(auto)]
 
 pub mod examine;
+mod memory;
 mod moves;
 pub mod theorems;
 pub mod waiting;

@@ -1,11 +1,13 @@
-// What the outcome of a record makes of the two stacks.
-ghost use Rattle.std.specs.Prelude.{◌≡◌, ◌+◌, ◌≤◌, true, ◌++◌, reverse, length, Some};
+// What the outcome of a record makes of the open branches.
+ghost use Rattle.std.specs.Prelude.{◌≡◌, ◌+◌, ◌≤◌, true, ◌++◌, length, Some};
 ghost use Rattle.stack.specs.Stacks.{items, room, Same};
+ghost use Rattle.logic.specs.Stored.{stored};
 ghost use Rattle.rules.specs.Outcomes.{listed};
-ghost use Rattle.steps.specs.Branches.{fits, label_fits, labels_after};
-ghost use Rattle.steps.specs.Memory.{waitings, branches, Kept, Sound, OverStacks};
+ghost use Rattle.steps.specs.Branches.{branch, fits, label_fits, labels_after, moved};
+ghost use Rattle.steps.specs.Held.{open_in, waiting_in, rooms_of, shown, SamePlaces};
 ghost use Rattle.steps.specs.Waits.{laid_one, laid};
 
+use crate::memory::Memory;
 use crate::waiting::{Added, Waiting};
 use logic::fact::Fact;
 use records::numbers::{FormulaNumber, RecordNumber};
@@ -14,7 +16,7 @@ use rules::outcome::{Few, Growth, Outcome};
 use stack::stack::Stack;
 
 // How many labels a branch may have.
-pub(crate) const MAX_LABELS: u16 = 32;
+const MAX_LABELS: u16 = 32;
 
 // How many facts these are.
 fn size(facts: Few<FormulaNumber>) -> usize
@@ -31,15 +33,7 @@ fn size(facts: Few<FormulaNumber>) -> usize
 fn has_label(labels: u16, opens: bool) -> bool
     ensures { result ≡ label_fits labels opens }
 {
-    if opens { labels < MAX_LABELS } else { true }
-}
-
-// Whether a premise fits the trail, and its label is one of 32.
-fn has_room(trail: &Stack<Fact>, labels: u16, p: Growth<FormulaNumber>) -> bool
-    ensures { result ≡ fits (room trail.now) (length (items trail.now)) labels p }
-{
-    let free = trail.room() - trail.len();
-    size(p.facts) <= free && has_label(labels, p.opens)
+    !opens || labels < MAX_LABELS
 }
 
 // The label count after a premise.
@@ -56,11 +50,8 @@ fn lay_one(trail: &mut Stack<Fact>, fact: Fact)
     ensures items { items trail.new ≡ items trail.old ++ laid_one fact }
     ensures same { Same trail.old trail.new }
 {
-    match fact.view() {
-        None => {}
-        Some(_) => {
-            let _ = trail.push(fact);
-        }
+    if fact.view().is_some() {
+        let _ = trail.push(fact);
     }
 }
 
@@ -75,89 +66,81 @@ fn lay(trail: &mut Stack<Fact>, facts: Added)
     lay_one(trail, facts.third);
 }
 
-// Takes up the latest waiting branch, if any, and answers its label count.
-fn take_up(trail: &mut Stack<Fact>, waiting: &mut Stack<Waiting>) -> Option<u16>
-    requires { Kept (room trail.old) (length (items trail.old)) (reverse (items waiting.old)) }
-    ensures shows { branches (items trail.new) (items waiting.new) result ≡ waitings (items trail.old) (reverse (items waiting.old)) }
-    ensures sound { Sound (room trail.new) (items trail.new) (items waiting.new) result }
-    ensures trail { Same trail.old trail.new }
-    ensures waiting { Same waiting.old waiting.new }
-{
-    match waiting.pop() {
-        None => None,
-        Some(w) => {
-            trail.cut(w.trail);
-            lay(trail, w.facts);
-            Some(w.labels)
+impl Memory<'_, '_> {
+    // Whether a premise fits the trail, and its label is one of 32.
+    fn has_room(&self, labels: u16, p: Growth<FormulaNumber>) -> bool
+        ensures { result ≡ fits (room self.now.trail.now) (length (items self.now.trail.now)) labels p }
+    {
+        let free = self.trail.room() - self.trail.len();
+        size(p.facts) <= free && has_label(labels, p.opens)
+    }
+
+    // Takes up the latest waiting branch, if any, and answers its label count.
+    fn take_up(&mut self) -> Option<u16>
+        ensures shows { open_in self.new result ≡ waiting_in self.old }
+        ensures same { SamePlaces self.old self.new }
+    {
+        let w = self.waiting.pop()?;
+        self.trail.cut(w.trail);
+        lay(self.trail, w.facts);
+        Some(w.labels)
+    }
+
+    // The current branch goes on with one premise.
+    fn go_on(
+        &mut self,
+        labels: u16,
+        p: Growth<FormulaNumber>,
+        at: RecordNumber,
+    ) -> Result<Option<u16>, Refusal>
+        ensures shows { shown self.new result ≡ moved stored (rooms_of self.old) at (Some (Outcome.Goes p)) (branch (items self.old.trail.now) labels) (waiting_in self.old) }
+        ensures same { SamePlaces self.old self.new }
+    {
+        if !self.has_room(labels, p) {
+            return Err(Refusal::NoRoom(at));
         }
+        lay(self.trail, Added::of(p.facts));
+        Ok(Some(count_after(labels, p.opens)))
     }
-}
 
-// The current branch goes on with one premise.
-fn go_on(
-    trail: &mut Stack<Fact>,
-    waiting: &Stack<Waiting>,
-    labels: u16,
-    p: Growth<FormulaNumber>,
-    at: RecordNumber,
-) -> Result<Option<u16>, Refusal>
-    requires { Sound (room trail.old) (items trail.old) (items waiting.now) (Some labels) }
-    ensures shows { OverStacks (room trail.old) (room waiting.now) at (Some (Outcome.Goes p)) (items trail.old) labels (items waiting.now) (items trail.new) (items waiting.now) result }
-    ensures trail { Same trail.old trail.new }
-{
-    if !has_room(trail, labels, p) {
-        return Err(Refusal::NoRoom(at));
+    // The current branch goes on with the first premise, and the second waits.
+    fn fork(
+        &mut self,
+        labels: u16,
+        p: Growth<FormulaNumber>,
+        q: Growth<FormulaNumber>,
+        at: RecordNumber,
+    ) -> Result<Option<u16>, Refusal>
+        ensures shows { shown self.new result ≡ moved stored (rooms_of self.old) at (Some (Outcome.Forks p q)) (branch (items self.old.trail.now) labels) (waiting_in self.old) }
+        ensures same { SamePlaces self.old self.new }
+    {
+        if !self.has_room(labels, p) || !self.has_room(labels, q) {
+            return Err(Refusal::NoRoom(at));
+        }
+        let second = Waiting {
+            trail: self.trail.len(),
+            labels: count_after(labels, q.opens),
+            facts: Added::of(q.facts),
+        };
+        self.waiting.push(second).map_err(|_| Refusal::NoRoom(at))?;
+        lay(self.trail, Added::of(p.facts));
+        Ok(Some(count_after(labels, p.opens)))
     }
-    lay(trail, Added::of(p.facts));
-    Ok(Some(count_after(labels, p.opens)))
-}
 
-// The current branch goes on with the first premise, and the second waits.
-fn fork(
-    trail: &mut Stack<Fact>,
-    waiting: &mut Stack<Waiting>,
-    labels: u16,
-    p: Growth<FormulaNumber>,
-    q: Growth<FormulaNumber>,
-    at: RecordNumber,
-) -> Result<Option<u16>, Refusal>
-    requires { Sound (room trail.old) (items trail.old) (items waiting.old) (Some labels) }
-    ensures shows { OverStacks (room trail.old) (room waiting.old) at (Some (Outcome.Forks p q)) (items trail.old) labels (items waiting.old) (items trail.new) (items waiting.new) result }
-    ensures trail { Same trail.old trail.new }
-    ensures waiting { Same waiting.old waiting.new }
-{
-    if !has_room(trail, labels, p) || !has_room(trail, labels, q) {
-        return Err(Refusal::NoRoom(at));
-    }
-    let second = Waiting {
-        trail: trail.len(),
-        labels: count_after(labels, q.opens),
-        facts: Added::of(q.facts),
-    };
-    if !waiting.push(second) {
-        return Err(Refusal::NoRoom(at));
-    }
-    lay(trail, Added::of(p.facts));
-    Ok(Some(count_after(labels, p.opens)))
-}
-
-// What the outcome of record `at` makes of the stacks; the answer is the label count of the branch that is current then, if any.
-pub(crate) fn proceed(
-    trail: &mut Stack<Fact>,
-    waiting: &mut Stack<Waiting>,
-    labels: u16,
-    outcome: Option<Outcome<FormulaNumber>>,
-    at: RecordNumber,
-) -> Result<Option<u16>, Refusal>
-    requires { Sound (room trail.old) (items trail.old) (items waiting.old) (Some labels) }
-    ensures shows { OverStacks (room trail.old) (room waiting.old) at outcome (items trail.old) labels (items waiting.old) (items trail.new) (items waiting.new) result }
-    ensures trail { Same trail.old trail.new }
-    ensures waiting { Same waiting.old waiting.new }
-{
-    match outcome {
-        None => Err(Refusal::NotAsNeeded(at)),
-        Some(Outcome::Closes) => Ok(take_up(trail, waiting)),
-        Some(Outcome::Goes(p)) => go_on(trail, waiting, labels, p, at),
-        Some(Outcome::Forks(p, q)) => fork(trail, waiting, labels, p, q, at),
+    // What the outcome of record `at` makes of the branches; the answer is the label count of the one that is current then, if any.
+    pub(crate) fn proceed(
+        &mut self,
+        labels: u16,
+        outcome: Option<Outcome<FormulaNumber>>,
+        at: RecordNumber,
+    ) -> Result<Option<u16>, Refusal>
+        ensures shows { shown self.new result ≡ moved stored (rooms_of self.old) at outcome (branch (items self.old.trail.now) labels) (waiting_in self.old) }
+        ensures same { SamePlaces self.old self.new }
+    {
+        match outcome.ok_or(Refusal::NotAsNeeded(at))? {
+            Outcome::Closes => Ok(self.take_up()),
+            Outcome::Goes(p) => self.go_on(labels, p, at),
+            Outcome::Forks(p, q) => self.fork(labels, p, q, at),
+        }
     }
 }

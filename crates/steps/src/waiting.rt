@@ -7,7 +7,8 @@ use records::numbers::FormulaNumber;
 use rules::outcome::Few;
 use stack::blank::Blank;
 
-// The facts that a premise adds, one to three; the places that are left are blank.
+// The facts that a premise adds, one to three; the places that are left are blank. Three fields: a clause sees an array as a list of
+// any length, of which it isn't true that the blank one is the one whose numbers are all 0.
 #[derive(Clone, Copy)]
 pub struct Added {
     pub first: Fact,
@@ -23,19 +24,19 @@ impl Added {
         let blank: Fact = Blank::blank();
         match facts {
             Few::One(a) => Added {
-                first: Fact::of(a),
+                first: Fact::from(a),
                 second: blank,
                 third: blank,
             },
             Few::Two(a, b) => Added {
-                first: Fact::of(a),
-                second: Fact::of(b),
+                first: Fact::from(a),
+                second: Fact::from(b),
                 third: blank,
             },
             Few::Three(a, b, c) => Added {
-                first: Fact::of(a),
-                second: Fact::of(b),
-                third: Fact::of(c),
+                first: Fact::from(a),
+                second: Fact::from(b),
+                third: Fact::from(c),
             },
         }
     }

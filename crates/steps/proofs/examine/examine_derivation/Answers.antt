@@ -15,9 +15,9 @@ returns g c =
     let s = c.over-own.result in
     let w = c.over-later.result in
     let file = bytes_of c.args.file in
-    let nodes = nodes_of c.args.table.now in
-    let k = c.args.pile.now in
-    let P = c.args.principals in
+    let nodes = nodes_of c.args.setting.now.table.now in
+    let k = c.args.setting.now.pile.now in
+    let P = c.args.setting.now.principals in
     let n = c.args.labels in
     let most = min 512 (length c.args.trail.now) in
     let waits = min 64 (length c.args.waiting.now) in
@@ -25,7 +25,7 @@ returns g c =
     let limits : S (room s) (room w) ≡ S most waits = ap (λ i. S i (room w)) (made_room c.over-own.ensures.made) ∙ ap (S most) (made_room c.over-later.ensures.made) in
     record {
       verdict = λ fs is.
-          verdict g.K.Pack.conditions g.K.Pack.layouts g.K.Pack.readings g.met.K.Pack.lawful k P nodes c.args.table.now.falling fs n file most waits c.start-answer.result
+          verdict g.K.Pack.conditions g.K.Pack.layouts g.K.Pack.readings g.met.K.Pack.lawful k P nodes c.args.setting.now.table.now.falling fs n file most waits c.start-answer.result
           (c.start-answer.ensures.answer ∙ ap (λ T. examined T (branch c.args.facts.now n) file) limits ∙ ap (λ xs. examined (S most waits) (branch xs n) file) is);
       trail = search (rules, cleared);
       waiting = search (rules, cleared);

@@ -1,74 +1,60 @@
-use Rattle.std.proofs.Common.{◌≡◌, ℕ, length, Ok, ap, ◌∙◌, subst, arith}
-use Rattle.stack.specs.Stacks.{items, room}
-use Rattle.stack.proofs.Counts.{same_room, same_then}
+use Rattle.std.proofs.Common.{◌≡◌, length, Ok, Err, Some, ap, ◌∙◌, arith, rules}
 use Rattle.records.specs.Chains.{record_of}
 use Rattle.records.proofs.Chains.{next_at}
 use Rattle.records.proofs.Fronts.{front_parts}
-use Rattle.records.specs.declared.numbers.FormulaNumber.{FormulaNumber}
-use Rattle.logic.specs.declared.fact.Fact.{Fact}
-use Rattle.logic.specs.Tables.{nodes_of}
-use Rattle.steps.specs.Branches.{Setting}
-use Rattle.steps.specs.Memory.{stored_setting, branches, Sound}
-use Rattle.steps.proofs.Turns.{turn_on, turn_bad, stops_after}
+use Rattle.steps.specs.Held.{open_in, setting_of}
+use Rattle.steps.proofs.Turns.{same_places_then, same_setting, turn_on, turn_bad, stops_after}
 use Rattle.steps.proofs.walk.walk.Goals as goal
 
-pub walking-smaller : goal.walking-smaller
-walking-smaller g c =
-    let at = c.walking.cursor in
+pub returns-in_err-current-clause-answer : goal.returns-in_err-current-clause-answer
+returns-in_err-current-clause-answer g c =
+    let s = c.args.setting.now in
+    let old = c.args.memory.now in
+    let m = c.loop-current.memory in
+    let inv = c.loop-current.invariant in
+    let at = c.loop-current.cursor in
     let on = c.next.new.self in
-    let step = next_at at.rest.now at.number on.rest.now on.number (ap Ok c.in-Some-next.is) c.in-Ok.ensures in
-    let parts = front_parts at.rest.now (record_of c.in-Some-next.raw) on.rest.now step.0 in
+    let numbered = c.in_ok-numbered.numbered in
+    let is : c.next.result ≡ Ok (Some numbered) = search rules in
+    let step = next_at at.rest.now at.number on.rest.now on.number is c.next.ensures in
+    let refused : c.from_residual-in_err-current.result ≡ Err c.in_err-current.field-0.0 = search rules in
+    refused
+    ∙ turn_bad (setting_of g.K.Pack.layouts g.K.Pack.readings s old) (setting_of g.K.Pack.layouts g.K.Pack.readings s m) (same_setting g.K.Pack.layouts g.K.Pack.readings s inv.1)
+    at.number numbered.at step.1 at.rest.now m c.loop-current.current c.in-Some.count c.in-Some.is (record_of numbered.raw) on.rest.now step.0 c.in_err-current.field-0.0 c.in_err-current.ensures.shows
+    ∙ inv.0
+
+pub loop-current-smaller : goal.loop-current-smaller
+loop-current-smaller g c =
+    let at = c.loop-current.cursor in
+    let on = c.next.new.self in
+    let numbered = c.in_ok-numbered.numbered in
+    let is : c.next.result ≡ Ok (Some numbered) = search rules in
+    let step = next_at at.rest.now at.number on.rest.now on.number is c.next.ensures in
+    let parts = front_parts at.rest.now (record_of numbered.raw) on.rest.now step.0 in
     omega (arith, parts.length_is)
 
-pub walking-preserved : goal.walking-preserved
-walking-preserved g c =
-    let s = c.args.trail.now in
-    let w = c.args.waiting.now in
-    let t = c.walking.trail in
-    let v = c.walking.waiting in
-    let inv = c.walking.invariant in
-    let e = c.in-Ok-advance.ensures in
-    let at = c.walking.cursor in
+pub loop-current-preserved : goal.loop-current-preserved
+loop-current-preserved g c =
+    let s = c.args.setting.now in
+    let old = c.args.memory.now in
+    let m = c.loop-current.memory in
+    let inv = c.loop-current.invariant in
+    let at = c.loop-current.cursor in
     let on = c.next.new.self in
-    let step = next_at at.rest.now at.number on.rest.now on.number (ap Ok c.in-Some-next.is) c.in-Ok.ensures in
-    let S : ℕ → ℕ → Setting Fact FormulaNumber = λ m n. stored_setting (nodes_of c.args.table.now) (g.K.Pack.layouts c.args.pile.now) (g.K.Pack.readings c.args.pile.now) c.args.principals m n in
-    let same : S (room t) (room v) ≡ S (room s) (room w) = ap (λ n. S n (room v)) (same_room inv.2) ∙ ap (S (room s)) (same_room inv.3) in (
-      turn_on (S (room s) (room w)) (S (room t) (room v)) same at.number c.number-at.result c.number-at.ensures at.rest.now (items t) (items v) c.walking.current c.in-Some.count c.in-Some.is (record_of c.in-Some-next.raw) on.rest.now step.0 _ e.shows.0 on.number step.1 ∙ inv.0,
-      subst (λ (n : ℕ). Sound n (items c.advance.new.trail) (items c.advance.new.waiting) c.in-Ok-advance.after) (same_room inv.2) e.shows.1,
-      same_then inv.2 e.trail,
-      same_then inv.3 e.waiting,
+    let numbered = c.in_ok-numbered.numbered in
+    let e = c.in_ok-current.ensures in
+    let is : c.next.result ≡ Ok (Some numbered) = search rules in
+    let step = next_at at.rest.now at.number on.rest.now on.number is c.next.ensures in (
+      turn_on (setting_of g.K.Pack.layouts g.K.Pack.readings s old) (setting_of g.K.Pack.layouts g.K.Pack.readings s m) (same_setting g.K.Pack.layouts g.K.Pack.readings s inv.1)
+          at.number numbered.at step.1 at.rest.now m c.loop-current.current c.in-Some.count c.in-Some.is (record_of numbered.raw) on.rest.now step.0 _ e.shows on.number step.2
+          ∙ inv.0,
+      same_places_then inv.1 e.same,
     )
 
-pub returns-in-Err-advance : goal.returns-in-Err-advance
-returns-in-Err-advance g c =
-    let s = c.args.trail.now in
-    let w = c.args.waiting.now in
-    let t = c.walking.trail in
-    let v = c.walking.waiting in
-    let inv = c.walking.invariant in
-    let e = c.in-Err-advance.ensures in
-    let at = c.walking.cursor in
-    let on = c.next.new.self in
-    let step = next_at at.rest.now at.number on.rest.now on.number (ap Ok c.in-Some-next.is) c.in-Ok.ensures in
-    let S : ℕ → ℕ → Setting Fact FormulaNumber = λ m n. stored_setting (nodes_of c.args.table.now) (g.K.Pack.layouts c.args.pile.now) (g.K.Pack.readings c.args.pile.now) c.args.principals m n in
-    let same : S (room t) (room v) ≡ S (room s) (room w) = ap (λ n. S n (room v)) (same_room inv.2) ∙ ap (S (room s)) (same_room inv.3) in
-    record {
-      answer = turn_bad (S (room s) (room w)) (S (room t) (room v)) same at.number c.number-at.result c.number-at.ensures at.rest.now (items t) (items v) c.walking.current c.in-Some.count c.in-Some.is (record_of c.in-Some-next.raw) on.rest.now step.0 c.in-Err-advance.refusal e.shows ∙ inv.0;
-      trail = same_then inv.2 e.trail;
-      waiting = same_then inv.3 e.waiting;
-    }
-
-pub returns-then-left-gt0 : goal.returns-then-left-gt0
-returns-then-left-gt0 g c =
-    let s = c.args.trail.now in
-    let w = c.args.waiting.now in
-    let t = c.walking.trail in
-    let v = c.walking.waiting in
-    let at = c.walking.cursor in
-    let inv = c.walking.invariant in
-    let S = stored_setting (nodes_of c.args.table.now) (g.K.Pack.layouts c.args.pile.now) (g.K.Pack.readings c.args.pile.now) c.args.principals (room s) (room w) in
-    record {
-      answer = stops_after S at.number at.rest.now c.number-at.result c.number-at.ensures (branches (items t) (items v) c.walking.current) (ap (branches (items t) (items v)) c.in_default.is) (λ none. omega (arith, ap length none)) ∙ inv.0;
-      trail = inv.2;
-      waiting = inv.3;
-    }
+pub returns-then-left-gt0-clause-answer : goal.returns-then-left-gt0-clause-answer
+returns-then-left-gt0-clause-answer g c =
+    let at = c.loop-current.cursor in
+    let m = c.loop-current.memory in
+    let inv = c.loop-current.invariant in
+    stops_after (setting_of g.K.Pack.layouts g.K.Pack.readings c.args.setting.now c.args.memory.now) at.number at.rest.now c.number.result c.number.ensures (open_in m c.loop-current.current) (ap (open_in m) c.in_default.is) (λ none. omega (arith, ap length none))
+    ∙ inv.0
