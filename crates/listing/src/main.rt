@@ -2,7 +2,7 @@
 #![tactic(auto)]
 
 use anyhow::anyhow;
-use listings::listing::list;
+use listings::listing::{Printed, list};
 use records::file::MAX_FILE;
 use std::fs::File;
 use std::io::{Read, Write};
@@ -12,7 +12,7 @@ use std::{env, fmt, io};
 // One byte more than a file can have: enough to see that it has too many.
 const MOST: u64 = MAX_FILE as u64 + 1;
 
-// Where the bytes come from.
+// Where the bytes come from. Not an `Option` of a path: a message says where by it.
 #[derive(Drop)]
 enum Source {
     StandardInput,
@@ -54,11 +54,10 @@ fn read_some(rt: &HostRuntime, source: &Source) -> io::Result<Vec<u8>> {
     Ok(bytes)
 }
 
-// Prints the listing of some bytes.
+// Prints the listing of some bytes, or why they have none.
 fn show(rt: &HostRuntime, bytes: &[u8]) -> anyhow::Result<()> {
     let heap = rt.alloc();
-    let outcome = list(heap, bytes)?;
-    let text = outcome.to_string(heap)?;
+    let text = Printed(list(heap, bytes)?).to_string(heap)?;
     rt.stdout().write_all(text.as_bytes())?;
     Ok(())
 }
@@ -67,7 +66,7 @@ fn main(rt: HostRuntime) -> anyhow::Result<ExitCode> {
     let source = asked_for(&rt)?;
     match read_some(&rt, &source) {
         Ok(bytes) => {
-            show(&rt, bytes.as_slice())?;
+            show(&rt, &bytes)?;
             Ok(ExitCode::SUCCESS)
         }
         Err(error) => {

@@ -3,13 +3,12 @@
 
 #[cfg(test)]
 mod tests {
-    use listings::listing::list;
+    use listings::listing::{Printed, list};
     use std::alloc::{AllocError, Global};
     use std::test::Fail;
 
     fn text(heap: Global, bytes: &[u8]) -> Result<String, AllocError> {
-        let outcome = list(heap, bytes)?;
-        outcome.to_string(heap)
+        Printed(list(heap, bytes)?).to_string(heap)
     }
 
     #[test]
@@ -107,13 +106,13 @@ mod tests {
     fn a_file_has_at_most_32768_bytes(rt: HostRuntime) -> Result<(), Fail> {
         let heap = rt.alloc();
         let bytes = vec![in heap; 0; 32769]?;
-        let shown = text(heap, bytes.as_slice())?;
+        let shown = text(heap, &bytes)?;
         assert_eq!(rt;
             shown.as_str(),
             "refused 2 0: the file has more than 32768 bytes\n"
         );
         let bytes = vec![in heap; 0; 32768]?;
-        let shown = text(heap, bytes.as_slice())?;
+        let shown = text(heap, &bytes)?;
         assert!(rt; shown.as_str().contains("\nrefused 3 0: "));
         Ok(())
     }

@@ -1,12 +1,11 @@
 -- The listing of a file. Assumes nothing.
-use Rattle.std.specs.Prelude.{◌≡◌, ℕ, ◌+◌, ◌<◌, ◌≤◌, List, map, length, vec_items}
+use Rattle.std.specs.Prelude.{◌≡◌, ℕ, ◌+◌, ◌<◌, ◌≤◌, List, map, length, Ok, Err, Result, vec_items}
+use Rattle.records.specs.declared.refusal.Refusal.{Refusal}
 use Rattle.records.specs.declared.refusal.Refusal.TheVariants.{FileTooLong}
 use Rattle.records.specs.Chains.{chain, ending}
-use Rattle.readings.specs.declared.kind.Sort.{Sort}
+use Rattle.kinds.specs.declared.kind.Sort.{Sort}
 use Rattle.listings.specs.declared.row.Row.{Row}
 use Rattle.listings.specs.declared.listing.Listing.{Listing}
-use Rattle.listings.specs.declared.listing.Outcome.{Outcome}
-use Rattle.listings.specs.declared.listing.Outcome.TheVariants as outcome
 use Rattle.readings.specs.Readings.{counted_as}
 use Rattle.listings.specs.Rows.{Rows}
 use Rattle.listings.specs.Tallies.{counts_of, counted, nothing}
@@ -25,6 +24,6 @@ pub record Listed (bs : List ℕ) (l : Listing) : Type 0 where
   pub ending_is : l.ending ≡ ending (length (chain bs).records) (chain bs).rest
 
 -- some bytes: listed as a file up to 32,768, refused as too long beyond
-abbrev pub ListedBytes : List ℕ → Outcome → Type 0
-ListedBytes bs (outcome.Refused e) = (32768 < length bs) × (e ≡ FileTooLong)
-ListedBytes bs (outcome.Listed l) = (length bs ≤ 32768) × Listed bs l
+abbrev pub ListedBytes : List ℕ → Result Listing Refusal → Type 0
+ListedBytes bs (Ok l) = (length bs ≤ 32768) × Listed bs l
+ListedBytes bs (Err e) = (32768 < length bs) × (e ≡ FileTooLong)

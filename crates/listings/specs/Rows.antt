@@ -1,5 +1,5 @@
 -- The rows of a listing. Assumes nothing.
-use Rattle.std.specs.Prelude.{◌≡◌, ℕ, ◌+◌, List, [], ◌∷◌, length}
+use Rattle.std.specs.Prelude.{◌≡◌, ℕ, ◌+◌, List, [], ◌∷◌, length, sum_by}
 use Rattle.records.specs.Chains.{Record, record_of}
 use Rattle.listings.specs.declared.row.Row.{Row}
 use Rattle.readings.specs.Readings.{ReadsAs}
@@ -10,15 +10,14 @@ span r = 4 + length r.body
 
 -- how many bytes records take
 abbrev pub spans : List Record → ℕ
-spans [] = 0
-spans (r ∷ rs) = span r + spans rs
+spans rs = sum_by span rs
 
 -- the row of a record that is number n and begins at byte o
 pub record IsRow (r : Record) (n : ℕ) (o : ℕ) (row : Row) : Type 0 where
-  pub record_is : record_of row.raw ≡ r
-  pub number_is : row.number.0 ≡ n
+  pub record_is : record_of row.«record».raw ≡ r
+  pub number_is : row.«record».at.0 ≡ n
   pub offset_is : row.offset ≡ o
-  pub reads : ReadsAs r.kind r.body row.number row.reading
+  pub reads : ReadsAs r.kind r.body row.«record».at row.reading
 
 -- a row for each record, in order: the first is number n and begins at byte o, and each begins where the one before ends
 abbrev pub Rows : List Record → ℕ → ℕ → List Row → Type 0

@@ -1,7 +1,7 @@
 -- How records are counted, by what each is counted as. Assumes nothing.
-use Rattle.std.specs.Prelude.{ℕ, ◌+◌, List, [], ◌∷◌}
-use Rattle.readings.specs.declared.kind.Sort.{Sort}
-use Rattle.readings.specs.declared.kind.Sort.TheVariants.{Formula, Fact, Row, Unknown, WrongSize}
+use Rattle.std.specs.Prelude.{ℕ, ◌+◌, List, fold}
+use Rattle.kinds.specs.declared.kind.Sort.{Sort}
+use Rattle.kinds.specs.declared.kind.Sort.TheVariants.{Formula, Fact, Row, Unknown, WrongSize}
 use Rattle.listings.specs.declared.tally.Tally.{Tally}
 
 -- how many there are of each sort
@@ -30,8 +30,7 @@ one_more WrongSize c = record { formulas = c.formulas; facts = c.facts; rows = c
 
 -- the counts of records of these sorts, counted one after another on top of c
 abbrev pub counted : Counts → List Sort → Counts
-counted c [] = c
-counted c (s ∷ ss) = counted (one_more s c) ss
+counted c ss = fold (λ d s. one_more s d) c ss
 
 -- how many there are in all
 abbrev pub total : Counts → ℕ

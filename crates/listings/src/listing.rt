@@ -7,8 +7,10 @@ use crate::row::Row;
 use crate::tally::Tally;
 use crate::text::Refused;
 use chains::chain::read_chain;
+use readings::reading::counted_as;
 use records::file::File;
 use records::numbers::RecordNumber;
+use records::record::Numbered;
 use records::refusal::Refusal;
 use std::alloc::{AllocError, Global};
 use std::fmt;
@@ -24,24 +26,14 @@ pub struct Listing<'a> {
     pub ending: Option<Refusal>,
 }
 
-// What some bytes are listed as.
-#[derive(Drop)]
-pub enum Outcome<'a> {
-    // too many bytes for a file
-    Refused(Refusal),
-    Listed(Listing<'a>),
-}
-
-// The listing of some bytes as a file.
-pub fn list<'a>(heap: Global, bytes: &'a [u8]) -> Result<Outcome<'a>, AllocError>
+// The listing of some bytes as a file; refused where they are too many for one.
+// A result in a result: out of memory is the caller's error, and a refusal is an answer, printed as a listing is.
+pub fn list<'a>(heap: Global, bytes: &'a [u8]) -> Result<Result<Listing<'a>, Refusal>, AllocError>
     ensures { IfOk result (λ o. ListedBytes bytes.now o) }
 {
-    match File::check(bytes) {
-        Err(refusal) => Ok(Outcome::Refused(refusal)),
-        Ok(()) => match list_file(heap, File::new(bytes)) {
-            Err(error) => Err(error),
-            Ok(listing) => Ok(Outcome::Listed(listing)),
-        },
+    match File::try_from(bytes) {
+        Ok(file) => Ok(Ok(list_file(heap, file)?)),
+        Err(refusal) => Ok(Err(refusal)),
     }
 }
 
@@ -53,13 +45,12 @@ fn list_file<'a>(heap: Global, file: File<'a>) -> Result<Listing<'a>, AllocError
     let mut rows = Vec::new(heap);
     let mut tally = Tally::new();
     let mut taken = 0;
-    for raw in chain.records.as_slice() {
-        let row = Row::of(*raw, RecordNumber(tally.records()), taken);
+    for raw in &chain.records {
+        let at = RecordNumber(tally.records());
+        let row = Row::of(Numbered { at, raw: *raw }, taken);
         taken = row.end();
-        tally = tally.add(row.reading.sort());
-        if rows.push(row).is_err() {
-            return Err(AllocError);
-        }
+        tally.add(counted_as(row.reading));
+        rows.push(row)?;
     }
     Ok(Listing {
         rows,
@@ -74,30 +65,27 @@ fn list_file<'a>(heap: Global, file: File<'a>) -> Result<Listing<'a>, AllocError
 impl fmt::Display for Listing<'_> {
     fn fmt<W: fmt::Write>(&self, f: &mut fmt::Formatter<W>) -> fmt::Result {
         writeln!(f, "  no  offset   kind  name              fields")?;
-        for row in self.rows.as_slice() {
+        for row in &self.rows {
             writeln!(f, "{row}")?;
         }
-        let records = self.tally.records();
-        match self.ending {
-            None => writeln!(f, "a whole chain of {records} records")?,
-            Some(refusal) => {
-                let refused = Refused(refusal);
-                writeln!(f, "{refused}, at byte {}", self.taken)?;
-            }
-        }
         let tally = self.tally;
+        match self.ending {
+            None => writeln!(f, "a whole chain of {} records", tally.records())?,
+            Some(refusal) => writeln!(f, "{}, at byte {}", Refused(refusal), self.taken)?,
+        }
         writeln!(f, "bytes {}  {tally}", self.bytes)
     }
 }
 
-impl fmt::Display for Outcome<'_> {
+// What `list` answers, as it is printed: the listing, or a line that says why there is none.
+#[derive(Drop)]
+pub struct Printed<'a>(pub Result<Listing<'a>, Refusal>);
+
+impl fmt::Display for Printed<'_> {
     fn fmt<W: fmt::Write>(&self, f: &mut fmt::Formatter<W>) -> fmt::Result {
-        match self {
-            Outcome::Refused(refusal) => {
-                let refused = Refused(*refusal);
-                writeln!(f, "{refused}")
-            }
-            Outcome::Listed(listing) => write!(f, "{listing}"),
+        match &self.0 {
+            Ok(listing) => write!(f, "{listing}"),
+            Err(refusal) => writeln!(f, "{}", Refused(*refusal)),
         }
     }
 }

@@ -1,4 +1,5 @@
 // How many records of each sort there are: the type says that they add up to the number of records.
+// Five named counters, and not an array by sort: the invariant adds them, and a line prints them, by name.
 ghost use Rattle.std.specs.Prelude.{◌≡◌, ◌+◌, ◌≤◌};
 
 pub mod methods;

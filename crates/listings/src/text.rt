@@ -3,6 +3,7 @@ use records::refusal::Refusal;
 use std::fmt;
 
 // Bytes: how many, and each of them in hexadecimal.
+// A wrapper, since a slice's own type, which it prints, is std's.
 #[derive(Clone, Copy)]
 pub(crate) struct Bytes<'a>(pub &'a [u8]);
 
@@ -22,14 +23,18 @@ impl fmt::Display for Bytes<'_> {
 }
 
 // A refusal: its two numbers, and the cause in words.
+// A wrapper, since `records`, whose type it prints, is another crate, and prints the cause alone.
 #[derive(Clone, Copy)]
 pub(crate) struct Refused(pub Refusal);
 
 impl fmt::Display for Refused {
     fn fmt<W: fmt::Write>(&self, f: &mut fmt::Formatter<W>) -> fmt::Result {
         let refusal = self.0;
-        let number = refusal.number();
-        let second = refusal.second();
-        write!(f, "refused {number} {second}: {refusal}")
+        write!(
+            f,
+            "refused {} {}: {refusal}",
+            refusal.number(),
+            refusal.second()
+        )
     }
 }

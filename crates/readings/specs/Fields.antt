@@ -1,8 +1,8 @@
 -- The fields that the body of each kind of record holds. Assumes nothing.
 use Rattle.std.specs.Prelude.{ℕ, List}
 use Rattle.kinds.specs.Contents.{atom_of, parts_of, modal_of, label_count_of, labelled_of, ordered_of, arrowed_of, world_count_of, above_of, ends_of, atom_row_of, place_of}
-use Rattle.readings.specs.declared.kind.Kind.{Kind}
-use Rattle.readings.specs.declared.kind.Kind.TheVariants as kind
+use Rattle.kinds.specs.declared.kind.Kind.{Kind}
+use Rattle.kinds.specs.declared.kind.Kind.TheVariants as kind
 use Rattle.readings.specs.declared.fields.Fields.{Fields}
 use Rattle.readings.specs.declared.fields.Fields.TheVariants as fields
 

@@ -1,7 +1,6 @@
-//! How a record reads: the kinds of records, and the fields of each.
+//! How a record reads: the fields of each kind.
 #![tactic(auto)]
 
 pub mod fields;
-pub mod kind;
 pub mod reading;
 mod text;

@@ -1,86 +1,78 @@
-// How a record reads: the fields that its kind and its body give, or why it has none.
+// How a record reads: its kind, and the fields that its body gives.
 ghost use Rattle.std.specs.Prelude.{◌≡◌};
 ghost use Rattle.records.specs.Kinds.{decoded};
-ghost use Rattle.readings.specs.Kinds.{size_of};
+ghost use Rattle.kinds.specs.Kinds.{size_of};
 ghost use Rattle.readings.specs.Fields.{fields_of};
 ghost use Rattle.readings.specs.Readings.{ReadsAs, counted_as};
 
 use crate::fields::Fields;
-use crate::kind::{Kind, Sort};
 use kinds::facts::{ArrowFact, Labels, LeftFact, OrderFact, RightFact};
 use kinds::formulas::{
     And, AtomFormula, Controls, Falsity, Implies, Or, Permitted, Ratified, Says,
 };
+use kinds::kind::{Kind, Sort, UnknownKind};
 use kinds::rows::{Above, AtomHolds, Ends, Stands, Worlds};
-use records::kind::decode;
-use records::numbers::RecordNumber;
-use records::record::RawRecord;
+use records::record::Numbered;
 use records::refusal::Refusal;
 
-// How a record reads.
+// How a record of a known kind reads.
 #[derive(Clone, Copy)]
-pub enum Reading {
-    // its kind is known, and its body has the kind's size
-    Known(Kind, Fields),
-    // its kind is known, and its body has another size: what a reader of the kind answers
-    WrongSize(Kind, Refusal),
-    // its kind is unknown
-    Unknown,
+pub struct Reading {
+    pub kind: Kind,
+    // refused, as a reader of the kind refuses it, where its body has another size than the kind's
+    pub fields: Result<Fields, Refusal>,
 }
 
 impl Reading {
-    // How record `at` reads.
-    pub fn of(raw: RawRecord, at: RecordNumber) -> Reading
-        ensures { ReadsAs raw.entry.kind raw.entry.body.now at result }
+    // How a record reads; refused where its kind is unknown.
+    pub fn of(record: Numbered) -> Result<Reading, UnknownKind>
+        ensures { ReadsAs «record».entry.raw.kind «record».entry.raw.body.now «record».entry.at result }
     {
-        match Kind::of(raw.kind) {
-            None => Reading::Unknown,
-            Some(kind) => match read_fields(kind, raw.body, at) {
-                Ok(fields) => Reading::Known(kind, fields),
-                Err(refusal) => Reading::WrongSize(kind, refusal),
-            },
-        }
-    }
-
-    // What the record is counted as.
-    pub fn sort(self) -> Sort
-        ensures { result ≡ counted_as self }
-    {
-        match self {
-            Reading::Known(kind, _) => kind.sort(),
-            Reading::WrongSize(_, _) => Sort::WrongSize,
-            Reading::Unknown => Sort::Unknown,
-        }
+        let kind = Kind::try_from(record.raw.kind)?;
+        Ok(Reading {
+            kind,
+            fields: read_fields(kind, record),
+        })
     }
 }
 
-// The fields of record `at`, of the kind `kind`; refused where the size of its body is wrong for the kind.
-fn read_fields(kind: Kind, body: &[u8], at: RecordNumber) -> Result<Fields, Refusal>
-    ensures { result ≡ decoded (size_of kind) (fields_of kind) body.now at }
+// What a record that reads so is counted as.
+pub fn counted_as(reading: Result<Reading, UnknownKind>) -> Sort
+    ensures { result ≡ counted_as reading }
 {
-    let fields = match kind {
-        Kind::Atom => Fields::Atom(decode::<AtomFormula>(body, at)?),
+    match reading {
+        Ok(reading) if reading.fields.is_ok() => reading.kind.sort(),
+        Ok(_) => Sort::WrongSize,
+        Err(_) => Sort::Unknown,
+    }
+}
+
+// The fields of a record of the kind `kind`; refused where the size of its body is wrong for the kind.
+fn read_fields(kind: Kind, record: Numbered) -> Result<Fields, Refusal>
+    ensures { result ≡ decoded (size_of kind) (fields_of kind) «record».entry.raw.body.now «record».entry.at }
+{
+    Ok(match kind {
+        Kind::Atom => Fields::Atom(record.decode::<AtomFormula>()?),
         Kind::Falsity => {
-            decode::<Falsity>(body, at)?;
+            record.decode::<Falsity>()?;
             Fields::Nothing
         }
-        Kind::And => Fields::Parts(decode::<And>(body, at)?),
-        Kind::Or => Fields::Parts(decode::<Or>(body, at)?),
-        Kind::Implies => Fields::Parts(decode::<Implies>(body, at)?),
-        Kind::Says => Fields::Modal(decode::<Says>(body, at)?),
-        Kind::Controls => Fields::Modal(decode::<Controls>(body, at)?),
-        Kind::Ratified => Fields::Modal(decode::<Ratified>(body, at)?),
-        Kind::Permitted => Fields::Modal(decode::<Permitted>(body, at)?),
-        Kind::Labels => Fields::Labels(decode::<Labels>(body, at)?),
-        Kind::LeftFormula => Fields::Labelled(decode::<LeftFact>(body, at)?),
-        Kind::RightFormula => Fields::Labelled(decode::<RightFact>(body, at)?),
-        Kind::Order => Fields::Ordered(decode::<OrderFact>(body, at)?),
-        Kind::Arrow => Fields::Arrowed(decode::<ArrowFact>(body, at)?),
-        Kind::Worlds => Fields::Worlds(decode::<Worlds>(body, at)?),
-        Kind::WorldsAbove => Fields::Above(decode::<Above>(body, at)?),
-        Kind::ArrowEnds => Fields::Ends(decode::<Ends>(body, at)?),
-        Kind::AtomRow => Fields::AtomRow(decode::<AtomHolds>(body, at)?),
-        Kind::Place => Fields::Place(decode::<Stands>(body, at)?),
-    };
-    Ok(fields)
+        Kind::And => Fields::Parts(record.decode::<And>()?),
+        Kind::Or => Fields::Parts(record.decode::<Or>()?),
+        Kind::Implies => Fields::Parts(record.decode::<Implies>()?),
+        Kind::Says => Fields::Modal(record.decode::<Says>()?),
+        Kind::Controls => Fields::Modal(record.decode::<Controls>()?),
+        Kind::Ratified => Fields::Modal(record.decode::<Ratified>()?),
+        Kind::Permitted => Fields::Modal(record.decode::<Permitted>()?),
+        Kind::Labels => Fields::Labels(record.decode::<Labels>()?),
+        Kind::LeftFormula => Fields::Labelled(record.decode::<LeftFact>()?),
+        Kind::RightFormula => Fields::Labelled(record.decode::<RightFact>()?),
+        Kind::Order => Fields::Ordered(record.decode::<OrderFact>()?),
+        Kind::Arrow => Fields::Arrowed(record.decode::<ArrowFact>()?),
+        Kind::Worlds => Fields::Worlds(record.decode::<Worlds>()?),
+        Kind::WorldsAbove => Fields::Above(record.decode::<Above>()?),
+        Kind::ArrowEnds => Fields::Ends(record.decode::<Ends>()?),
+        Kind::AtomRow => Fields::AtomRow(record.decode::<AtomHolds>()?),
+        Kind::Place => Fields::Place(record.decode::<Stands>()?),
+    })
 }

@@ -2,7 +2,7 @@ ghost use Rattle.std.specs.Prelude.{◌≡◌, ◌+◌, ◌<◌};
 ghost use Rattle.listings.specs.Tallies.{counts_of, nothing, one_more};
 
 use crate::tally::Tally;
-use readings::kind::Sort;
+use kinds::kind::Sort;
 use std::fmt;
 
 impl Tally {
@@ -20,21 +20,19 @@ impl Tally {
         }
     }
 
-    // With one more record of the sort.
-    pub(crate) fn add(self, sort: Sort) -> Tally
-        requires { self.records < 8192 }
-        ensures { counts_of result ≡ one_more sort (counts_of self) }
+    // Counts one more record of the sort.
+    pub(crate) fn add(&mut self, sort: Sort)
+        requires { self.old.records < 8192 }
+        ensures { counts_of self.new ≡ one_more sort (counts_of self.old) }
     {
-        let mut more = self;
         match sort {
-            Sort::Formula => more.formulas += 1,
-            Sort::Fact => more.facts += 1,
-            Sort::Row => more.rows += 1,
-            Sort::Unknown => more.unknown += 1,
-            Sort::WrongSize => more.wrong += 1,
+            Sort::Formula => self.formulas += 1,
+            Sort::Fact => self.facts += 1,
+            Sort::Row => self.rows += 1,
+            Sort::Unknown => self.unknown += 1,
+            Sort::WrongSize => self.wrong += 1,
         }
-        more.records += 1;
-        more
+        self.records += 1;
     }
 
     // How many records there are.
