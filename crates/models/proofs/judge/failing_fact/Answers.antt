@@ -1,4 +1,4 @@
-use Rattle.std.proofs.Common.{subst}
+use Rattle.std.proofs.Common.{subst, arith}
 use Rattle.logic.specs.declared.table.FormulaTable.{FormulaTable}
 use Rattle.logic.specs.Facts.{falsifies, facts_map}
 use Rattle.logic.specs.Formulas.{tree}
@@ -13,7 +13,7 @@ use Rattle.sequents.proofs.Few.{handed_few}
 use Rattle.models.proofs.judge.failing_fact.Goals as goal
 
 pub first_not_falsifying-requires : goal.first_not_falsifying-requires
-first_not_falsifying-requires c = handed_few c.args.sequent.now.facts _ c.facts.ensures
+first_not_falsifying-requires c = omega (arith, handed_few c.args.sequent.now.facts _ c.facts.ensures)
 
 pub returns : goal.returns
 returns c =
