@@ -38,72 +38,65 @@ SOURCE = list(files(r"crates/[^/]+/src/.*\.rt"))
 TESTS = re.compile(r"_tests/|/tests?\.rt$|examples/")
 
 
-def lines_of(regex, keep=lambda path: True):
-    """Each place where the regex fits, as path:line text."""
+def found(regex, flags=re.M, keep=lambda path: True):
+    """Where the regex fits: path:line, and the match."""
     for path, text in SOURCE:
         if keep(path):
-            for m in re.finditer(regex, text, re.M):
-                line = text.count("\n", 0, m.start()) + 1
-                yield f"{path}:{line} {' '.join(m.group(0).split())[:100]}"
+            for m in re.finditer(regex, text, flags):
+                yield f"{path}:{text.count(chr(10), 0, m.start()) + 1}", m
 
 
-def functions():
-    """Path, line, name, parameters and result of each function."""
-    for path, text in SOURCE:
-        for m in re.finditer(r"\bfn (\w+)(?:<[^(]*>)?\(([^)]*(?:\([^)]*\)[^)]*)*)\)\s*(->[^{;]*)?", text):
-            line = text.count("\n", 0, m.start()) + 1
-            yield path, line, m.group(1), m.group(2), m.group(3) or ""
+def lines_of(regex, keep=lambda path: True):
+    """Each place where the regex fits, with its text."""
+    for at, m in found(regex, keep=keep):
+        yield f"{at} {' '.join(m.group(0).split())[:100]}"
 
 
 def together(*names):
     """Functions that take all of these parameters."""
-    for path, line, name, parameters, _ in functions():
-        have = {re.split(r"[: ]", p.strip().removeprefix("mut "))[0] for p in parameters.split(",")}
+    for at, m in found(r"\bfn (\w+)(?:<[^(]*>)?\(([^)]*(?:\([^)]*\)[^)]*)*)\)"):
+        have = {re.split(r"[: ]", p.strip().removeprefix("mut "))[0] for p in m.group(2).split(",")}
         if set(names) <= have:
-            yield f"{path}:{line} {name}"
+            yield f"{at} {m.group(1)}"
 
 
 def enums():
     """Enums with a case that holds nothing beside one that holds something, or with two cases that both hold something."""
-    for path, text in SOURCE:
-        for m in re.finditer(r"^(?:pub )?enum (\w+)[^{]*\{(.*?)\n\}", text, re.S | re.M):
-            body = re.sub(r"//.*", "", m.group(2))
-            cases = [c for c in re.findall(r"^\s+(\w+)(\(|\s*\{|,|$)", body, re.M)]
-            holding = [c for c in cases if c[1].strip() in ("(", "{")]
-            if holding and (len(holding) < len(cases) or len(cases) == 2):
-                yield f"{path}:{text.count(chr(10), 0, m.start()) + 1} {m.group(1)}"
+    for at, m in found(r"^(?:pub )?enum (\w+)[^{]*\{(.*?)\n\}", re.S | re.M):
+        body = re.sub(r"//.*", "", m.group(2))
+        cases = re.findall(r"^\s+(\w+)(\(|\s*\{|,|$)", body, re.M)
+        holding = [c for c in cases if c[1].strip() in ("(", "{")]
+        if holding and (len(holding) < len(cases) or len(cases) == 2):
+            yield f"{at} {m.group(1)}"
 
 
 def shared(regex):
     """Blocks whose captured text another block before it has too."""
-    seen = {}
-    for path, text in SOURCE:
-        for m in re.finditer(regex, text, re.M):
-            key = m.group(m.lastindex)
-            at = f"{path}:{text.count(chr(10), 0, m.start()) + 1} {key}"
-            if key in seen:
-                yield at
-            seen.setdefault(key, at)
+    seen = set()
+    for at, m in found(regex):
+        if m.group(1) in seen:
+            yield f"{at} {m.group(1)}"
+        seen.add(m.group(1))
 
 
 def pairs():
-    """Functions that measure, beside ones that write the same words."""
-    for path, text in SOURCE:
-        measured = set(re.findall(r"\bfn (\w+)_len\(", text))
-        for name in re.findall(r"\bfn put_(\w+)\(", text):
-            if name in measured:
-                yield f"{path} {name}_len, put_{name}"
+    """Functions that write words, where one of the same file measures them."""
+    measured = {(at.split(":")[0], m.group(1)) for at, m in found(r"\bfn (\w+)_len\(")}
+    for at, m in found(r"\bfn put_(\w+)\("):
+        if (at.split(":")[0], m.group(1)) in measured:
+            yield f"{at} {m.group(1)}_len, put_{m.group(1)}"
 
 
 def arrays():
     """Structs with an array and a length beside it."""
-    for path, text in SOURCE:
-        for m in re.finditer(r"struct (\w+)[^{;]*\{(.*?)\n\}", text, re.S):
-            if re.search(r"\[[^\]]*; *\w+\]|\[T\]", m.group(2)) and re.search(r"\blen: usize", m.group(2)):
-                yield f"{path}:{text.count(chr(10), 0, m.start()) + 1} {m.group(1)}"
+    for at, m in found(r"struct (\w+)[^{;]*\{(.*?)\n\}", re.S):
+        if re.search(r"\[[^\]]*; *\w+\]|\[T\]", m.group(2)) and re.search(r"\blen: usize", m.group(2)):
+            yield f"{at} {m.group(1)}"
 
 
-CODE = lambda path: not TESTS.search(path)
+def is_code(path):
+    return not TESTS.search(path)
+
 
 SORTS = [
     ("1 enum that may be an Option or a Result", enums()),
@@ -123,8 +116,8 @@ SORTS = [
     ("3 for over indices", lines_of(r"^\s*for \w+ in \d+\.\..* \{")),
     ("3 test gathered in a bool", lines_of(r"\bok = ok & ")),
     ("3 loop without a condition", lines_of(r"^\s*(?:'\w+: |let \w+ = )?loop \{")),
-    ("4 equality by the number inside", lines_of(r"\.0 == (?:[\w.]+\.0|n)\b|\.number\(\) == ", CODE)),
-    ("4 conversion of its own name", lines_of(r"fn (from_number|number)\((number: u16|self)\)", CODE)),
+    ("4 equality by the number inside", lines_of(r"\.0 == (?:[\w.]+\.0|n)\b|\.number\(\) == ", is_code)),
+    ("4 conversion of its own name", lines_of(r"fn (from_number|number)\((number: u16|self)\)", is_code)),
     ("5 taken together: raw, at", together("raw", "at")),
     ("5 taken together: table, trail", together("table", "trail")),
     ("5 taken together: pile, principals", together("pile", "principals")),
@@ -136,10 +129,10 @@ SORTS = [
 ]
 
 for sort, places in SORTS:
-    found = list(places)
-    print(f"{len(found):4}  {sort}")
+    listed = list(places)
+    print(f"{len(listed):4}  {sort}")
     if VERBOSE:
-        for place in found:
+        for place in listed:
             print(f"        {place}")
 
 answers = [text for _, text in files(r"crates/[^/]+/proofs/.*/(Answers|Invariants)\.antt")]
