@@ -103,33 +103,45 @@ fn reflexive_step(x: Label, labels: u16, at: RecordNumber) -> Result<Step, Refus
     }
 }
 
+// The step that a record asks for, over a pile and so many principals, in a branch with so many labels. It needs no formulas.
+pub fn decode_step<K: Pack>(
+    pile: &K,
+    principals: u16,
+    labels: u16,
+    numbered: Numbered,
+) -> Result<Step, Refusal>
+    ensures { result ≡ step_of (K.layouts pile.now) principals labels (record_of numbered.entry.raw) numbered.entry.at }
+{
+    // The number is made into a step right here: an enum of kinds between would be this list once more, and a trait's
+    // constant can't be a pattern.
+    match numbered.raw.kind {
+        32 => Ok(Step::AtomsClose(numbered.decode::<AtomsClose>()?)),
+        33 => Ok(Step::FalsityCloses(numbered.decode::<FalsityCloses>()?)),
+        34 => Ok(Step::AndLeft(numbered.decode::<AndLeft>()?)),
+        35 => Ok(Step::AndRight(numbered.decode::<AndRight>()?)),
+        36 => Ok(Step::OrLeft(numbered.decode::<OrLeft>()?)),
+        37 => Ok(Step::OrRight(numbered.decode::<OrRight>()?)),
+        38 => Ok(Step::ImpliesLeft(numbered.decode::<ImpliesLeft>()?)),
+        39 => Ok(Step::ImpliesRight(numbered.decode::<ImpliesRight>()?)),
+        40 => Ok(Step::ModalLeft(numbered.decode::<ModalLeft>()?)),
+        41 => Ok(Step::ModalRight(numbered.decode::<ModalRight>()?)),
+        42 => Ok(Step::PermittedLeft(numbered.decode::<PermittedLeft>()?)),
+        43 => Ok(Step::PermittedRight(numbered.decode::<PermittedRight>()?)),
+        44 => reflexive_step(numbered.decode::<Reflexive>()?, labels, numbered.at),
+        45 => Ok(Step::Transitive(numbered.decode::<Transitive>()?)),
+        46 => Ok(Step::Monotone(numbered.decode::<Monotone>()?)),
+        kind => {
+            let layout = pile.body(kind).ok_or(Refusal::Kind(numbered.at))?;
+            decode_pack_step(layout, principals, labels, numbered)
+        }
+    }
+}
+
 impl<K: Pack> Setting<'_, K> {
     // The step that a record asks for, in a branch with so many labels.
     pub fn decode(&self, labels: u16, numbered: Numbered) -> Result<Step, Refusal>
         ensures { result ≡ step_of (K.layouts self.now.pile.now) self.now.principals labels (record_of numbered.entry.raw) numbered.entry.at }
     {
-        // The number is made into a step right here: an enum of kinds between would be this list once more, and a trait's
-        // constant can't be a pattern.
-        match numbered.raw.kind {
-            32 => Ok(Step::AtomsClose(numbered.decode::<AtomsClose>()?)),
-            33 => Ok(Step::FalsityCloses(numbered.decode::<FalsityCloses>()?)),
-            34 => Ok(Step::AndLeft(numbered.decode::<AndLeft>()?)),
-            35 => Ok(Step::AndRight(numbered.decode::<AndRight>()?)),
-            36 => Ok(Step::OrLeft(numbered.decode::<OrLeft>()?)),
-            37 => Ok(Step::OrRight(numbered.decode::<OrRight>()?)),
-            38 => Ok(Step::ImpliesLeft(numbered.decode::<ImpliesLeft>()?)),
-            39 => Ok(Step::ImpliesRight(numbered.decode::<ImpliesRight>()?)),
-            40 => Ok(Step::ModalLeft(numbered.decode::<ModalLeft>()?)),
-            41 => Ok(Step::ModalRight(numbered.decode::<ModalRight>()?)),
-            42 => Ok(Step::PermittedLeft(numbered.decode::<PermittedLeft>()?)),
-            43 => Ok(Step::PermittedRight(numbered.decode::<PermittedRight>()?)),
-            44 => reflexive_step(numbered.decode::<Reflexive>()?, labels, numbered.at),
-            45 => Ok(Step::Transitive(numbered.decode::<Transitive>()?)),
-            46 => Ok(Step::Monotone(numbered.decode::<Monotone>()?)),
-            kind => {
-                let layout = self.pile.body(kind).ok_or(Refusal::Kind(numbered.at))?;
-                decode_pack_step(layout, self.principals, labels, numbered)
-            }
-        }
+        decode_step(self.pile, self.principals, labels, numbered)
     }
 }
