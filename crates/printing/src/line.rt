@@ -27,6 +27,7 @@ pub enum Line {
 }
 
 // Puts a number with a space before it.
+#[inline(always)]
 fn put_spaced<S: Sink>(sink: &mut S, n: u16)
     requires { S.can_take sink.old (spaced n) }
     ensures { S.takes sink.old (spaced n) sink.new }
@@ -36,6 +37,7 @@ fn put_spaced<S: Sink>(sink: &mut S, n: u16)
 }
 
 // Puts a refusal's two numbers.
+#[inline(always)]
 fn put_refusal<S: Sink>(sink: &mut S, e: Refusal)
     requires { S.can_take sink.old (refusal_of e) }
     ensures { S.takes sink.old (refusal_of e) sink.new }
@@ -47,6 +49,7 @@ fn put_refusal<S: Sink>(sink: &mut S, e: Refusal)
 }
 
 // Puts how a call ended.
+#[inline(always)]
 fn put_outcome<S: Sink>(sink: &mut S, done: Result<(), Refusal>)
     requires { S.can_take sink.old (outcome_of done) }
     ensures { S.takes sink.old (outcome_of done) sink.new }
@@ -58,6 +61,7 @@ fn put_outcome<S: Sink>(sink: &mut S, done: Result<(), Refusal>)
 }
 
 // Puts a call's words: its name, the number that it speaks of, and how it ended.
+#[inline(always)]
 fn put_call<S: Sink>(sink: &mut S, name: &[u8], number: u16, done: Result<(), Refusal>)
     requires { S.can_take sink.old (name.now ++ spaced number ++ outcome_of done) }
     ensures { S.takes sink.old (name.now ++ spaced number ++ outcome_of done) sink.new }
@@ -76,6 +80,7 @@ fn opening(done: Result<(), WrongCount>) -> Result<(), Refusal>
 }
 
 // Puts `words` with a refusal behind them.
+#[inline(always)]
 fn put_refused<S: Sink>(sink: &mut S, words: &[u8], e: Refusal)
     requires { S.can_take sink.old (words.now ++ refusal_of e) }
     ensures { S.takes sink.old (words.now ++ refusal_of e) sink.new }
@@ -85,6 +90,7 @@ fn put_refused<S: Sink>(sink: &mut S, words: &[u8], e: Refusal)
 }
 
 // Puts a line without its end.
+#[inline(always)]
 fn put_words<S: Sink>(sink: &mut S, line: Line)
     requires { S.can_take sink.old (words_of line) }
     ensures { S.takes sink.old (words_of line) sink.new }
@@ -100,6 +106,7 @@ fn put_words<S: Sink>(sink: &mut S, line: Line)
 }
 
 // Puts a line.
+#[inline(always)]
 fn put_line<S: Sink>(sink: &mut S, line: Line)
     requires { S.can_take sink.old (line_of line) }
     ensures { S.takes sink.old (line_of line) sink.new }
