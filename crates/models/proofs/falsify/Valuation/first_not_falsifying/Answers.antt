@@ -1,5 +1,7 @@
 use Rattle.std.proofs.Common.{rules, ◌≡◌, not, Some, sym, ap, ◌∙◌, subst}
 use Rattle.std.proofs.lemmas.Iterator.{YieldsList-from_slice}
+use Rattle.std.proofs.lemmas.List.{take_all}
+use Rattle.std.proofs.Math.Seq.{take-length}
 use Rattle.std.proofs.lemmas.Iterator.Search.{position_from_yields_List}
 use borrow.Author.Tests.{tests}
 use Rattle.logic.specs.Facts.{falsifies, facts_map}
@@ -22,7 +24,7 @@ returns c = λ fs e inside.
     let ns = nodes_of v.table.now in
     let seen = fact_seen g v.truths.sets in
     let p = falsifies (model_of g.rows) (standing_of g.places) in
-    let told = position_from_yields_List (λ f. not (seen f)) _ _ c.position.result c.position.ensures.ran (YieldsList-from_slice c.args.facts.now (cc)) (λ x b q k. search (rules, tests)) in
+    let told = position_from_yields_List (λ f. not (seen f)) _ _ c.position.result c.position.ensures.ran (YieldsList-from_slice c.args.facts.now (search (rules, take_all, take-length))) (λ x b q k. search (rules, tests)) in
     let mapped : c.map.result ≡ option_map position c.position.result =
     by_cases c.position.result c.map.ensures.cases (λ is none. none ∙ sym (ap (option_map position) is)) (λ i is some. (let one : c.map.result ≡ Some (position i) = search (rules, tests) in one) ∙ sym (ap (option_map position) is)) in
     subst (FirstNotOf p (facts_map (tree ns) fs)) (sym mapped)
