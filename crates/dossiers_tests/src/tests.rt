@@ -2,7 +2,6 @@
 use dossiers::read::read_dossier;
 use logic::table::FormulaTable;
 use records::file::File;
-use records::numbers::RecordNumber;
 use records::refusal::Refusal;
 use std::alloc::{AllocError, Global};
 use std::test::Fail;
@@ -15,7 +14,7 @@ struct Size {
 }
 
 // Reads the bytes as a dossier over a table.
-fn read_over(table: &FormulaTable, bytes: &[u8], principals: u16) -> Result<Size, Refusal> {
+fn size_over(table: &FormulaTable, bytes: &[u8], principals: u16) -> Result<Size, Refusal> {
     let dossier = read_dossier(File::try_from(bytes)?, table, principals)?;
     Ok(Size {
         formulas: dossier.table.len(),
@@ -23,13 +22,18 @@ fn read_over(table: &FormulaTable, bytes: &[u8], principals: u16) -> Result<Size
     })
 }
 
+// The same, with a refusal by its two numbers.
+fn read_over(table: &FormulaTable, bytes: &[u8], principals: u16) -> Result<Size, (u16, u16)> {
+    size_over(table, bytes, principals).map_err(|refusal| (refusal.number(), refusal.second()))
+}
+
 // Reads the bytes as a dossier over an empty table.
-fn read(bytes: &[u8], principals: u16) -> Result<Size, Refusal> {
+fn read(bytes: &[u8], principals: u16) -> Result<Size, (u16, u16)> {
     read_over(&FormulaTable::new(), bytes, principals)
 }
 
 // A dossier that is taken, with so many formulas and facts.
-fn taken(formulas: usize, facts: usize) -> Result<Size, Refusal> {
+fn taken(formulas: usize, facts: usize) -> Result<Size, (u16, u16)> {
     Ok(Size { formulas, facts })
 }
 
@@ -40,48 +44,27 @@ fn parts_in_their_places(rt: HostRuntime) {
         taken(1, 1)
     );
     assert_eq!(rt; read(&[4, 0, 10, 0, 8, 0], 1), taken(0, 0));
-    assert_eq!(rt; read(&[], 1), Err(Refusal::EndsEarly(RecordNumber(0))));
-    assert_eq!(rt;
-        read(&[2, 0, 2, 0], 1),
-        Err(Refusal::EndsEarly(RecordNumber(1)))
-    );
-    assert_eq!(rt;
-        read(&[6, 0, 13, 0, 0, 0, 0, 0], 1),
-        Err(Refusal::Kind(RecordNumber(0)))
-    );
-    assert_eq!(rt;
-        read(&[4, 0, 10, 0, 1, 0, 2, 0, 2, 0], 1),
-        Err(Refusal::Kind(RecordNumber(1)))
-    );
+    assert_eq!(rt; read(&[], 1), Err((13, 0)));
+    assert_eq!(rt; read(&[2, 0, 2, 0], 1), Err((13, 1)));
+    assert_eq!(rt; read(&[6, 0, 13, 0, 0, 0, 0, 0], 1), Err((4, 0)));
+    assert_eq!(rt; read(&[4, 0, 10, 0, 1, 0, 2, 0, 2, 0], 1), Err((4, 1)));
     assert_eq!(rt;
         read(&[4, 0, 10, 0, 1, 0, 4, 0, 10, 0, 1, 0], 1),
-        Err(Refusal::Kind(RecordNumber(1)))
+        Err((4, 1))
     );
 }
 
 #[test]
 fn kinds_of_other_files(rt: HostRuntime) {
-    assert_eq!(rt;
-        read(&[4, 0, 20, 0, 1, 0], 1),
-        Err(Refusal::Kind(RecordNumber(0)))
-    );
-    assert_eq!(rt; read(&[2, 0, 0, 0], 1), Err(Refusal::Kind(RecordNumber(0))));
+    assert_eq!(rt; read(&[4, 0, 20, 0, 1, 0], 1), Err((4, 0)));
+    assert_eq!(rt; read(&[2, 0, 0, 0], 1), Err((4, 0)));
     assert_eq!(rt;
         read(&[4, 0, 10, 0, 1, 0, 4, 0, 44, 0, 0, 0], 1),
-        Err(Refusal::Kind(RecordNumber(1)))
+        Err((4, 1))
     );
-    assert_eq!(rt;
-        read(&[3, 0, 2, 0, 9], 1),
-        Err(Refusal::Frame(RecordNumber(0)))
-    );
-    assert_eq!(rt;
-        read(&[3, 0, 20, 0, 9], 1),
-        Err(Refusal::Kind(RecordNumber(0)))
-    );
-    assert_eq!(rt;
-        read(&[2, 0, 2, 0, 2, 0], 1),
-        Err(Refusal::Frame(RecordNumber(1)))
-    );
+    assert_eq!(rt; read(&[3, 0, 2, 0, 9], 1), Err((3, 0)));
+    assert_eq!(rt; read(&[3, 0, 20, 0, 9], 1), Err((4, 0)));
+    assert_eq!(rt; read(&[2, 0, 2, 0, 2, 0], 1), Err((3, 1)));
 }
 
 #[test]
@@ -90,49 +73,31 @@ fn formulas_in_range(rt: HostRuntime) {
         read(&[4, 0, 1, 0, 63, 0, 4, 0, 10, 0, 1, 0], 1),
         taken(1, 0)
     );
-    assert_eq!(rt;
-        read(&[4, 0, 1, 0, 64, 0], 1),
-        Err(Refusal::OutOfRange(RecordNumber(0)))
-    );
-    assert_eq!(rt;
-        read(&[6, 0, 3, 0, 0, 0, 0, 0], 1),
-        Err(Refusal::OutOfRange(RecordNumber(0)))
-    );
-    assert_eq!(rt;
-        read(&[2, 0, 2, 0, 6, 0, 5, 0, 0, 0, 1, 0], 1),
-        Err(Refusal::OutOfRange(RecordNumber(1)))
-    );
+    assert_eq!(rt; read(&[4, 0, 1, 0, 64, 0], 1), Err((5, 0)));
+    assert_eq!(rt; read(&[6, 0, 3, 0, 0, 0, 0, 0], 1), Err((5, 0)));
+    assert_eq!(rt; read(&[2, 0, 2, 0, 6, 0, 5, 0, 0, 0, 1, 0], 1), Err((5, 1)));
     assert_eq!(rt;
         read(&[2, 0, 2, 0, 6, 0, 6, 0, 7, 0, 0, 0, 4, 0, 10, 0, 1, 0], 8),
         taken(2, 0)
     );
-    assert_eq!(rt;
-        read(&[2, 0, 2, 0, 6, 0, 6, 0, 8, 0, 0, 0], 8),
-        Err(Refusal::OutOfRange(RecordNumber(1)))
-    );
+    assert_eq!(rt; read(&[2, 0, 2, 0, 6, 0, 6, 0, 8, 0, 0, 0], 8), Err((5, 1)));
 }
 
 #[test]
 fn labels_in_range(rt: HostRuntime) {
-    assert_eq!(rt;
-        read(&[4, 0, 10, 0, 0, 0], 1),
-        Err(Refusal::OutOfRange(RecordNumber(0)))
-    );
-    assert_eq!(rt;
-        read(&[4, 0, 10, 0, 9, 0], 1),
-        Err(Refusal::OutOfRange(RecordNumber(0)))
-    );
+    assert_eq!(rt; read(&[4, 0, 10, 0, 0, 0], 1), Err((5, 0)));
+    assert_eq!(rt; read(&[4, 0, 10, 0, 9, 0], 1), Err((5, 0)));
     assert_eq!(rt;
         read(&[4, 0, 10, 0, 8, 0, 6, 0, 13, 0, 7, 0, 0, 0], 1),
         taken(0, 1)
     );
     assert_eq!(rt;
         read(&[4, 0, 10, 0, 8, 0, 6, 0, 13, 0, 8, 0, 0, 0], 1),
-        Err(Refusal::OutOfRange(RecordNumber(1)))
+        Err((5, 1))
     );
     assert_eq!(rt;
         read(&[4, 0, 10, 0, 1, 0, 6, 0, 11, 0, 0, 0, 0, 0], 1),
-        Err(Refusal::OutOfRange(RecordNumber(1)))
+        Err((5, 1))
     );
 }
 
@@ -157,28 +122,28 @@ fn arrows_in_range(rt: HostRuntime) {
             &[4, 0, 10, 0, 1, 0, 10, 0, 14, 0, 5, 0, 0, 0, 0, 0, 0, 0],
             1,
         ),
-        Err(Refusal::OutOfRange(RecordNumber(1)))
+        Err((5, 1))
     );
     assert_eq!(rt;
         read(
             &[4, 0, 10, 0, 1, 0, 10, 0, 14, 0, 10, 0, 0, 0, 0, 0, 0, 0],
             1,
         ),
-        Err(Refusal::OutOfRange(RecordNumber(1)))
+        Err((5, 1))
     );
     assert_eq!(rt;
         read(
             &[4, 0, 10, 0, 1, 0, 10, 0, 14, 0, 6, 0, 1, 0, 0, 0, 0, 0],
             1,
         ),
-        Err(Refusal::OutOfRange(RecordNumber(1)))
+        Err((5, 1))
     );
     assert_eq!(rt;
         read(
             &[4, 0, 10, 0, 1, 0, 10, 0, 14, 0, 6, 0, 0, 0, 0, 0, 1, 0],
             1,
         ),
-        Err(Refusal::OutOfRange(RecordNumber(1)))
+        Err((5, 1))
     );
 }
 
@@ -200,19 +165,10 @@ fn formulas_at_the_limit(rt: HostRuntime) -> Result<(), Fail> {
 #[test]
 fn one_formula_too_many(rt: HostRuntime) -> Result<(), Fail> {
     let mut bytes = falsities(rt.alloc())?;
-    assert_eq!(rt;
-        read(bytes.as_slice(), 1),
-        Err(Refusal::EndsEarly(RecordNumber(256)))
-    );
+    assert_eq!(rt; read(bytes.as_slice(), 1), Err((13, 256)));
     bytes.extend_from_slice(&[6, 0, 6, 0, 0, 0, 255, 0])?;
-    assert_eq!(rt;
-        read(bytes.as_slice(), 1),
-        Err(Refusal::Full(RecordNumber(256)))
-    );
-    assert_eq!(rt;
-        read(bytes.as_slice(), 0),
-        Err(Refusal::OutOfRange(RecordNumber(256)))
-    );
+    assert_eq!(rt; read(bytes.as_slice(), 1), Err((6, 256)));
+    assert_eq!(rt; read(bytes.as_slice(), 0), Err((5, 256)));
     Ok(())
 }
 
@@ -223,10 +179,7 @@ fn facts_at_the_limit(rt: HostRuntime) -> Result<(), Fail> {
     bytes.extend_from_slice(&[6u8, 0, 13, 0, 0, 0, 0, 0].repeat(rt.alloc(), 16)?)?;
     assert_eq!(rt; read(bytes.as_slice(), 1), taken(0, 16));
     bytes.extend_from_slice(&[6, 0, 13, 0, 0, 0, 0, 0])?;
-    assert_eq!(rt;
-        read(bytes.as_slice(), 1),
-        Err(Refusal::Full(RecordNumber(17)))
-    );
+    assert_eq!(rt; read(bytes.as_slice(), 1), Err((6, 17)));
     Ok(())
 }
 
@@ -247,7 +200,7 @@ fn formulas_of_earlier_dossiers(rt: HostRuntime) -> Result<(), Fail> {
     );
     assert_eq!(rt;
         read_over(&table, &[2, 0, 2, 0, 2, 0, 2, 0, 2, 0, 99, 0], 1),
-        Err(Refusal::Kind(RecordNumber(2)))
+        Err((4, 2))
     );
     assert_eq!(rt; table.len(), 1);
     Ok(())

@@ -199,6 +199,10 @@ fn blocks(rt: HostRuntime) {
     assert_eq!(rt; next_of(&[1, 0, 1, 0]), (Err(NoBlock), 4));
     assert_eq!(rt; next_of(&[5, 0, 1, 0, 1, 0]), (Err(NoBlock), 6));
     assert_eq!(rt; next_of(&[5]), (Err(NoBlock), 1));
+    assert_eq!(rt; u16::from(BlockKind::Open), 0);
+    assert_eq!(rt; u16::from(BlockKind::Enter), 1);
+    assert_eq!(rt; u16::from(BlockKind::Prove), 2);
+    assert_eq!(rt; u16::from(BlockKind::Refute), 3);
 }
 
 #[test]
